@@ -1,0 +1,6 @@
+pub mod Out
+pub mod Bindings
+mod Searches
+mod Slots
+mod Entering
+pub mod Refusing

@@ -1,0 +1,33 @@
+-- What an accepted call does to the map of a finder, and what a finder is when it is made.
+use mathlib.Core.Path.{_≡_}
+use mathlib.Core.List.{List, []}
+use mathlib.Core.Bool.{Bool, true, cond}
+use Prim.Native.Nat.{ℕ, _+_}
+use lib.ListN.{length}
+use Rattle.std.specs.declared.option.Option.the-variants.{Some, None}
+use Rattle.std.specs.declared.result.Result.{Result}
+use Rattle.std.specs.declared.result.Result.the-variants.{Ok, Err}
+use Rattle.finders.specs.declared.finder.Binding.{Binding}
+use Rattle.finders.specs.declared.refusal.Refusal.{Refusal}
+use Rattle.finders.specs.Lookup.{lookup}
+use Rattle.finders.specs.Refusals.{makeRefusal}
+
+module _ {Item : Type 0} (same : Item → Item → Bool) where
+  -- x is at the place now, and every other item where it was.
+  pub record Entered (before : List (Binding Item)) (x : Item) (place : ℕ) (after : List (Binding Item)) : Type 0 where
+    pub places : (y : Item) → lookup same after y ≡ cond (same y x) (Some place) (lookup same before y)
+    pub number : length after ≡ length before + 1
+
+  -- x is nowhere now, and every other item where it was.
+  pub record Left (before : List (Binding Item)) (x : Item) (after : List (Binding Item)) : Type 0 where
+    pub places : (y : Item) → lookup same after y ≡ cond (same y x) None (lookup same before y)
+    pub number : length after + 1 ≡ length before
+
+  -- Same items are found at the same place.
+  abbrev pub LookupsAgree : Type 0
+  LookupsAgree = (bs : List (Binding Item)) (x y : Item) → same x y ≡ true → lookup same bs x ≡ lookup same bs y
+
+-- Over so many slots, whatever they hold: refused, or a finder that holds nothing and has room for a binding in each.
+abbrev pub MadeOver : {Finder Item : Type 0} → (Finder → List (Binding Item)) → (Finder → ℕ) → ℕ → Result Finder Refusal → Type 0
+MadeOver bindings room slots (Ok f) = (makeRefusal slots ≡ None) × (bindings f ≡ []) × (room f ≡ slots)
+MadeOver bindings room slots (Err why) = makeRefusal slots ≡ Some why
