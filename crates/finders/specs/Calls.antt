@@ -2,15 +2,11 @@
 use mathlib.Core.Path.{_≡_}
 use mathlib.Core.List.{List, []}
 use mathlib.Core.Bool.{Bool, true, cond}
-use Prim.Native.Nat.{ℕ, _+_}
+use Prim.Native.Nat.{ℕ, _+_, min}
 use lib.ListN.{length}
 use Rattle.std.specs.declared.option.Option.the-variants.{Some, None}
-use Rattle.std.specs.declared.result.Result.{Result}
-use Rattle.std.specs.declared.result.Result.the-variants.{Ok, Err}
 use Rattle.finders.specs.declared.finder.Binding.{Binding}
-use Rattle.finders.specs.declared.refusal.Refusal.{Refusal}
 use Rattle.finders.specs.Lookup.{lookup}
-use Rattle.finders.specs.Refusals.{makeRefusal}
 
 module _ {Item : Type 0} (same : Item → Item → Bool) where
   -- x is at the place now, and every other item where it was.
@@ -27,7 +23,7 @@ module _ {Item : Type 0} (same : Item → Item → Bool) where
   abbrev pub LookupsAgree : Type 0
   LookupsAgree = (bs : List (Binding Item)) (x y : Item) → same x y ≡ true → lookup same bs x ≡ lookup same bs y
 
--- Over so many slots, whatever they hold: refused, or a finder that holds nothing and has room for a binding in each.
-abbrev pub MadeOver : {Finder Item : Type 0} → (Finder → List (Binding Item)) → (Finder → ℕ) → ℕ → Result Finder Refusal → Type 0
-MadeOver bindings room slots (Ok f) = (makeRefusal slots ≡ None) × (bindings f ≡ []) × (room f ≡ slots)
-MadeOver bindings room slots (Err why) = makeRefusal slots ≡ Some why
+-- A finder made over so many slots, whatever they hold: it holds nothing, and a binding fits each slot, but no more than 1,024.
+pub record MadeOver {Finder Item : Type 0} (bindings : Finder → List (Binding Item)) (room : Finder → ℕ) (slots : ℕ) (f : Finder) : Type 0 where
+  pub empty : bindings f ≡ []
+  pub capacity : room f ≡ min slots 1024

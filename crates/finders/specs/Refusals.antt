@@ -29,10 +29,13 @@ unlessRefused (Some why) = Err why
 abbrev pub makeRefusal : ℕ → Option Refusal
 makeRefusal slots = cond (eqb slots 0 || ltb 1024 slots) (Some Slots) None
 
+-- An item is not entered where it is found already; then, not above the capacity.
+abbrev pub enterRefusalAt : Option ℕ → ℕ → ℕ → Option Refusal
+enterRefusalAt found held room = cond (isSome found) (Some Held) (cond (leb room held) (Some Full) None)
+
 module _ {Item : Type 0} (same : Item → Item → Bool) where
-  -- An item is not entered twice; then, not above the capacity.
   abbrev pub enterRefusal : List (Binding Item) → ℕ → Item → Option Refusal
-  enterRefusal bs room x = cond (isSome (lookup same bs x)) (Some Held) (cond (leb room (length bs)) (Some Full) None)
+  enterRefusal bs room x = enterRefusalAt (lookup same bs x) (length bs) room
 
   -- Only what is held can leave.
   abbrev pub leaveRefusal : List (Binding Item) → Item → Option Refusal

@@ -1,8 +1,9 @@
 // Why a finder says no.
 ghost use mathlib.Core.Path.{_≡_};
-ghost use Rattle.finders.specs.Refusals.{numberOf, unlessRefused, makeRefusal};
+ghost use Rattle.finders.specs.Refusals.{numberOf, unlessRefused, makeRefusal, enterRefusalAt};
 
-const MOST_SLOTS: usize = 1024;
+// The most slots that a finder is made over.
+pub const MOST_SLOTS: usize = 1024;
 
 #[derive(Clone, Copy)]
 pub enum Refusal {
@@ -35,6 +36,19 @@ pub fn check_slots(slots: usize) -> Result<(), Refusal>
 {
     if slots == 0 || slots > MOST_SLOTS {
         return Err(Refusal::Slots);
+    }
+    Ok(())
+}
+
+// Whether an item can be entered, by where it was found and how many are held of what fits: asked before a finder writes.
+pub fn check_enter(found: Option<usize>, held: usize, capacity: usize) -> Result<(), Refusal>
+    ensures { λ r. ⌜ r ≡ unlessRefused (enterRefusalAt found held capacity) ⌝ }
+{
+    if found.is_some() {
+        return Err(Refusal::Held);
+    }
+    if held >= capacity {
+        return Err(Refusal::Full);
     }
     Ok(())
 }

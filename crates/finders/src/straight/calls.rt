@@ -12,7 +12,8 @@ ghost use Rattle.finders.specs.Straight.{bindingsOf, roomOf};
 use crate::finder::Binding;
 use crate::finder::Finder;
 use crate::refusal::Refusal;
-use crate::refusal::check_slots;
+use crate::refusal::check_enter;
+use crate::refusal::MOST_SLOTS;
 use crate::straight::StraightFinder;
 use crate::straight::front::Front;
 use crate::straight::front::index_of;
@@ -20,18 +21,13 @@ use crate::straight::front::place_of;
 use items::kind::Kind;
 
 impl<'a, T> StraightFinder<'a, T> {
-    // An empty finder over 1 to 1,024 slots, whatever they hold.
-    pub fn new(slots: &'a mut [Binding<T>]) -> Result<StraightFinder<'a, T>, Refusal>
+    // An empty finder over the slots, whatever they hold. It cannot refuse: `check_slots` says before whether there are
+    // 1 to 1,024, and of more slots only the first 1,024 are used.
+    pub fn over(slots: &'a mut [Binding<T>]) -> StraightFinder<'a, T>
         ensures { λ r. ⌜ MadeOver bindingsOf roomOf (length (now (slots .entry))) r ⌝ }
     {
-        check_slots(slots.len())?;
-        Ok(StraightFinder::over(slots))
-    }
-
-    fn over(slots: &'a mut [Binding<T>]) -> StraightFinder<'a, T>
-        ensures held { λ r. ⌜ r .front .held ≡ 0 ⌝ }
-        ensures slots { λ r. ⌜ now (r .front .slots) ≡ now (slots .entry) ⌝ }
-    {
+        let count = slots.len().min(MOST_SLOTS);
+        let (slots, _) = slots.split_at_mut(count);
         StraightFinder {
             front: Front { slots, held: 0 },
         }
@@ -62,12 +58,7 @@ pub impl<'a, T: Kind + Copy + Drop> Finder<T> for StraightFinder<'a, T> as Strai
     }
 
     fn enter(&mut self, item: T, place: usize) -> Result<(), Refusal> {
-        if self.find(&item).is_some() {
-            return Err(Refusal::Held);
-        }
-        if self.front.held == self.front.slots.len() {
-            return Err(Refusal::Full);
-        }
+        check_enter(self.find(&item), self.held(), self.capacity())?;
         self.front.push(Binding { item, place });
         Ok(())
     }

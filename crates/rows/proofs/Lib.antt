@@ -1,0 +1,16 @@
+pub mod Lists
+pub mod Put
+pub mod Sameness
+pub mod Outside
+pub mod Hits
+pub mod Booking
+pub mod Invariant
+pub mod Rows
+pub mod Figures
+pub mod Positions
+pub mod Frequent
+pub mod Top
+pub mod Fronts
+pub mod Watched
+pub mod Theorem
+pub mod Examples

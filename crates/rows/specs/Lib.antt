@@ -1,0 +1,4 @@
+pub mod Row
+pub mod Questions
+pub mod Promises
+pub mod Examples
