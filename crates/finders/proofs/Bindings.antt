@@ -14,7 +14,7 @@ use Rattle.items.specs.Sameness.{Equivalence}
 use Rattle.finders.specs.declared.finder.Binding.{Binding}
 use Rattle.finders.specs.Lookup.{lookup, Lacks, Apart}
 use Rattle.finders.specs.Calls.{Entered, Left}
-use Rattle.finders.proofs.Out.{Out, here, there, out-length, all-out, all-in}
+use Rattle.items.proofs.Put.{Put, here, there, put-length, all-out, all-in}
 
 -- A test that cannot come out true comes out false.
 not-true : (b : Bool) → (b ≡ true → ⊥) → b ≡ false
@@ -61,20 +61,20 @@ module _ {Item : Type 0} (same : Item → Item → Bool) where
 
     -- ---- one binding put in or taken out
 
-    pub apart-out : {b : Binding Item} {rest whole : List (Binding Item)} → Out b rest whole → Apart same whole → Lacks same rest (b .item) × Apart same rest
+    pub apart-out : {b : Binding Item} {rest whole : List (Binding Item)} → Put b rest whole → Apart same whole → Lacks same rest (b .item) × Apart same rest
     apart-out here apart = (apart .0, apart .1)
     apart-out {b} (there {f} o) apart =
         let inner = apart-out o (apart .1) in
         let others = all-out (λ c. same (f .item) (c .item) ≡ false) o (apart .0) in
         ((different-back _ _ (others .0), inner .0), (others .1, inner .1))
 
-    pub apart-in : {b : Binding Item} {rest whole : List (Binding Item)} → Out b rest whole → Lacks same rest (b .item) → Apart same rest → Apart same whole
+    pub apart-in : {b : Binding Item} {rest whole : List (Binding Item)} → Put b rest whole → Lacks same rest (b .item) → Apart same rest → Apart same whole
     apart-in here lacks apart = (lacks, apart)
     apart-in {b} (there {f} o) lacks apart =
         (all-in (λ c. same (f .item) (c .item) ≡ false) o (different-back _ _ (lacks .0)) (apart .0), apart-in o (lacks .1) (apart .1))
 
     -- An item is where b is if it is the same, and else where the rest has it.
-    pub lookup-out : {b : Binding Item} {rest whole : List (Binding Item)} → Out b rest whole → Apart same whole → (x : Item) → lookup same whole x ≡ cond (same x (b .item)) (Some (b .place)) (lookup same rest x)
+    pub lookup-out : {b : Binding Item} {rest whole : List (Binding Item)} → Put b rest whole → Apart same whole → (x : Item) → lookup same whole x ≡ cond (same x (b .item)) (Some (b .place)) (lookup same rest x)
     lookup-out here apart x = refl
     lookup-out {b} (there {f} {rest} o) apart x =
         ⊎-elim
@@ -86,12 +86,12 @@ module _ {Item : Type 0} (same : Item → Item → Bool) where
             ∙ ap (λ (p : Option ℕ). cond (same x (b .item)) (Some (b .place)) p) (sym (cond-false _ _ _ n)))
         (cases-bool (same x (f .item)))
 
-    pub entered : {b : Binding Item} {before after : List (Binding Item)} → Out b before after → Apart same after → Entered same before (b .item) (b .place) after
-    entered o apart = record { places = lookup-out o apart; number = omega (arith, out-length o) }
+    pub entered : {b : Binding Item} {before after : List (Binding Item)} → Put b before after → Apart same after → Entered same before (b .item) (b .place) after
+    entered o apart = record { places = lookup-out o apart; number = omega (arith, put-length o) }
 
     -- The binding that leaves may have another form of the item than the one asked for.
-    pub left : {b : Binding Item} {before after : List (Binding Item)} → Out b after before → Apart same before → (x : Item) → same x (b .item) ≡ true → Left same before x after
-    left {b} {before} {after} o apart x found = record { places = places; number = omega (arith, out-length o) }
+    pub left : {b : Binding Item} {before after : List (Binding Item)} → Put b after before → Apart same before → (x : Item) → same x (b .item) ≡ true → Left same before x after
+    left {b} {before} {after} o apart x found = record { places = places; number = omega (arith, put-length o) }
       where
         places : (y : Item) → lookup same after y ≡ cond (same y x) None (lookup same before y)
         places y =

@@ -10,9 +10,9 @@ use Rattle.items.specs.Sameness.{Equivalence}
 use Rattle.finders.specs.declared.finder.Binding.{Binding}
 use Rattle.finders.specs.Lookup.{lookup, Apart}
 use Rattle.finders.specs.Calls.{Entered, Left}
-use Rattle.finders.proofs.Out.{Out, out-length}
+use Rattle.items.proofs.Put.{Put, put-length}
 use Rattle.finders.proofs.Bindings.{lacking, lookup-out, apart-out, apart-in, entered, left}
-use Rattle.finders.proofs.Slots.{Moved, stays, moves, Closed, out-push, closed}
+use Rattle.finders.proofs.Slots.{Moved, stays, moves, Closed, put-push, closed}
 
 module _ {Item : Type 0} (same : Item → Item → Bool) (laws : Equivalence same) where
   -- Moving one binding changes nothing of what the list stands for.
@@ -26,9 +26,9 @@ module _ {Item : Type 0} (same : Item → Item → Bool) (laws : Equivalence sam
 
   length-moved : {bs cs : List (Binding Item)} → Moved bs cs → length cs ≡ length bs
   length-moved stays = refl
-  length-moved (moves from to) = out-length to ∙ sym (out-length from)
+  length-moved (moves from to) = put-length to ∙ sym (put-length from)
 
-  left-moved : {b : Binding Item} {before rest after : List (Binding Item)} → Out b rest before → Moved rest after → Apart same before → (x : Item) → same x (b .item) ≡ true → Left same before x after
+  left-moved : {b : Binding Item} {before rest after : List (Binding Item)} → Put b rest before → Moved rest after → Apart same before → (x : Item) → same x (b .item) ≡ true → Left same before x after
   left-moved out moved apart x found =
       let gone = left same laws out apart x found in
       record {
@@ -39,8 +39,8 @@ module _ {Item : Type 0} (same : Item → Item → Bool) (laws : Equivalence sam
   -- The slots before and after, and how many of them were held before.
   module _ (slots slots′ : List (Binding Item)) (held : ℕ) where
     module _ (held′ : ℕ) (b : Binding Item) (spare : held < length slots) (wrote : slots′ ≡ set slots held b) (more : held′ ≡ held + 1) (absent : lookup same (take held slots) (b .item) ≡ None) (apart : Apart same (take held slots)) where
-      pushed : Out b (take held slots) (take held′ slots′)
-      pushed = rw (wrote, more) (out-push slots held b spare)
+      pushed : Put b (take held slots) (take held′ slots′)
+      pushed = rw (wrote, more) (put-push slots held b spare)
 
       pub apart-entered : Apart same (take held′ slots′)
       apart-entered = apart-in same laws pushed (lacking same (take held slots) (b .item) absent) apart

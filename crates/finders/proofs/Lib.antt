@@ -1,4 +1,3 @@
-pub mod Out
 pub mod Bindings
 mod Searches
 mod Slots

@@ -8,40 +8,40 @@ use lib.ListN.{length, getD, drop, take, set}
 use lib.Seq.{take-set-lt}
 use Rattle.std.proofs.shelf.Lists.{take-more, take-more-set, take-set-le, append-nil, set-split, set-getD, append-assoc, length-take-le, getD-take}
 use Rattle.std.proofs.shelf.Tests.{cases-lt}
-use Rattle.finders.proofs.Out.{Out, out-between}
+use Rattle.items.proofs.Put.{Put, put-between}
 
 module _ {X : Type 0} where
   -- One more behind the first n.
-  pub out-push : (xs : List X) (n : ℕ) (e : X) → n < length xs → Out e (take n xs) (take (n + 1) (set xs n e))
-  out-push xs n e inside =
-      subst (Out e (take n xs)) (sym (take-more-set xs n e inside))
-      (subst (λ rest. Out e rest (take n xs ++ e ∷ [])) (append-nil (take n xs)) (out-between (take n xs) []))
+  pub put-push : (xs : List X) (n : ℕ) (e : X) → n < length xs → Put e (take n xs) (take (n + 1) (set xs n e))
+  put-push xs n e inside =
+      subst (Put e (take n xs)) (sym (take-more-set xs n e inside))
+      (subst (λ rest. Put e rest (take n xs ++ e ∷ [])) (append-nil (take n xs)) (put-between (take n xs) []))
 
   -- Two lists with the same elements: one of them moved, or none.
   pub data Moved : List X → List X → Type 0 where
     stays : {xs : List X} → Moved xs xs
-    moves : {e : X} {rest xs ys : List X} → Out e rest xs → Out e rest ys → Moved xs ys
+    moves : {e : X} {rest xs ys : List X} → Put e rest xs → Put e rest ys → Moved xs ys
 
   -- The list after e has left, which stood somewhere in the list before.
   pub record Closed (e : X) (before after : List X) : Type 0 where
     pub rest : List X
-    pub out : Out e rest before
+    pub out : Put e rest before
     pub moved : Moved rest after
 
   closed-middle : (front back : List X) (e last : X) → Closed e (front ++ e ∷ (back ++ last ∷ [])) (front ++ last ∷ back)
   closed-middle front back e last = record {
     rest = front ++ (back ++ last ∷ []);
-    out = out-between front (back ++ last ∷ []);
+    out = put-between front (back ++ last ∷ []);
     moved = moves
-      (subst (λ zs. Out last zs (front ++ (back ++ last ∷ []))) (ap (λ (zs : List X). front ++ zs) (append-nil back))
-        (subst (Out last (front ++ (back ++ []))) (append-assoc front back (last ∷ [])) (subst (λ zs. Out last zs ((front ++ back) ++ last ∷ [])) (append-assoc front back []) (out-between (front ++ back) []))))
-      (out-between front back);
+      (subst (λ zs. Put last zs (front ++ (back ++ last ∷ []))) (ap (λ (zs : List X). front ++ zs) (append-nil back))
+        (subst (Put last (front ++ (back ++ []))) (append-assoc front back (last ∷ [])) (subst (λ zs. Put last zs ((front ++ back) ++ last ∷ [])) (append-assoc front back []) (put-between (front ++ back) []))))
+      (put-between front back);
   }
 
   closed-end : (front : List X) (e : X) → Closed e (front ++ e ∷ []) front
   closed-end front e = record {
     rest = front;
-    out = subst (λ zs. Out e zs (front ++ e ∷ [])) (append-nil front) (out-between front []);
+    out = subst (λ zs. Put e zs (front ++ e ∷ [])) (append-nil front) (put-between front []);
     moved = stays;
   }
 

@@ -1,3 +1,4 @@
+pub mod Put
 mod Digits
 mod Zeros
 mod Articles

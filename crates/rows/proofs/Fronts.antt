@@ -32,7 +32,7 @@ data Rise {X : Type 0} (old new : X) : List X → List X → Type 0 where
 climb-insert : {Item : Type 0} (old new : Entry Item) {rest row : List (Entry Item)} → Put old rest row → Sorted row → old .count ≤ new .count →
     Climb old new row (insert new rest)
 climb-insert old new (here {rest}) s l = gone (put-insert new rest)
-climb-insert old new (there {f} {rest} {row} p) s l =
+climb-insert old new (there {f} {rest} {whole = row} p) s l =
     let low = all-out (λ e. f .count ≤ e .count) p (s .0) in
     cond-both (leb (f .count) (new .count)) (f ∷ insert new rest) (new ∷ f ∷ rest) (Climb old new (f ∷ row))
     (λ _. below (climb-insert old new p (s .1) l))

@@ -1,35 +1,18 @@
--- A list with one element put in somewhere: the one relation that insertion and removal share.
-use mathlib.Core.Path.{_≡_, refl, ap}
+-- One element put into a list, or taken out: what holds of all pairs, and what insertion into a row is.
+use mathlib.Core.Path.{_≡_, refl}
 use mathlib.Core.List.{List, [], _∷_}
-use Prim.Native.Nat.{suc, _+_, _≤_}
+use Prim.Native.Nat.{_+_, _≤_}
 use native.Mathlib.Omega.{arith}
 use lib.Dec.{leb}
-use lib.ListN.{length}
 use Rattle.std.specs.shelf.Lists.{All}
 use Rattle.std.proofs.shelf.Tests.{cond-both, leb-true, leb-false}
 use Rattle.std.proofs.shelf.Elements.{all-weaker}
+pub use Rattle.items.proofs.Put.{Put, here, there, put-length, all-out, all-in}
 use Rattle.rows.specs.declared.entry.Entry.{Entry}
 use Rattle.rows.specs.Row.{insert}
 use Rattle.rows.specs.Promises.{Pairwise, Sorted, sumOfCounts}
 
--- Put e rest row: row is rest with e put in somewhere.
-pub data Put {X : Type 0} (e : X) : List X → List X → Type 0 where
-  here : {rest : List X} → Put e rest (e ∷ rest)
-  there : {f : X} {rest row : List X} → Put e rest row → Put e (f ∷ rest) (f ∷ row)
-
 module _ {X : Type 0} where
-  pub put-length : {e : X} {rest row : List X} → Put e rest row → length row ≡ suc (length rest)
-  put-length here = refl
-  put-length (there p) = ap suc (put-length p)
-
-  pub all-out : (P : X → Type 0) {e : X} {rest row : List X} → Put e rest row → All P row → P e × All P rest
-  all-out P here a = (a .0, a .1)
-  all-out P (there p) a = let r = all-out P p (a .1) in (r .0, (a .0, r .1))
-
-  pub all-in : (P : X → Type 0) {e : X} {rest row : List X} → Put e rest row → P e → All P rest → All P row
-  all-in P here h a = (h, a)
-  all-in P (there p) h a = (a .0, all-in P p h (a .1))
-
   pub pairwise-out : (R : X → X → Type 0) {e : X} {rest row : List X} → Put e rest row → Pairwise R row → Pairwise R rest
   pairwise-out R here a = a .1
   pairwise-out R (there {f} p) a = (all-out (R f) p (a .0) .1, pairwise-out R p (a .1))
