@@ -8,12 +8,17 @@ use Rattle.std.specs.declared.result.Result.the-variants.{Ok, Err}
 use Rattle.items.specs.declared.article.Article.{Article}
 use Rattle.items.specs.declared.fault.ArticleFault.{ArticleFault}
 use Rattle.items.specs.Articles.{sameArticle}
+use Rattle.items.specs.Faults.{faultNumber}
 use Rattle.finders.specs.declared.finder.Binding.{Binding}
 use Rattle.finders.specs.declared.refusal.Refusal.{Refusal}
 use Rattle.finders.specs.Lookup.{lookup}
-use Rattle.finders.specs.Refusals.{enterRefusal, leaveRefusal}
+use Rattle.finders.specs.Refusals.{numberOf, enterRefusal, leaveRefusal}
 use Rattle.tour.specs.declared.delivery.Trouble.{Trouble}
 use Rattle.tour.specs.declared.delivery.Trouble.the-variants.{Spoiled, Refused}
+
+abbrev pub troubleNumber : Trouble → ℕ
+troubleNumber (Spoiled fault) = faultNumber fault
+troubleNumber (Refused why) = numberOf why
 
 -- The answer, unless the finder refuses.
 abbrev pub unlessTrouble : {X : Type 0} → X → Option Refusal → Result X Trouble

@@ -4,7 +4,7 @@ ghost use Rattle.std.specs.Vec.{made, refused};
 ghost use Rattle.finders.specs.Calls.{Entered, Left};
 ghost use Rattle.items.specs.Articles.{madeFrom, sameArticle};
 ghost use Rattle.tour.specs.declared.delivery.Trouble.the-variants.{Spoiled, Refused};
-ghost use Rattle.tour.specs.Delivery.{checkedIn, lookedUp, takenOut};
+ghost use Rattle.tour.specs.Delivery.{troubleNumber, checkedIn, lookedUp, takenOut};
 use finders::finder::Finder;
 use finders::refusal::Refusal;
 use items::article::Article;
@@ -16,6 +16,17 @@ use items::fault::ArticleFault;
 pub enum Trouble {
     Spoiled(ArticleFault),
     Refused(Refusal),
+}
+
+impl Trouble {
+    pub fn number(self) -> u8
+        ensures { λ r. ⌜ r ≡ troubleNumber self ⌝ }
+    {
+        match self {
+            Trouble::Spoiled(fault) => fault.number(),
+            Trouble::Refused(refusal) => refusal.number(),
+        }
+    }
 }
 
 impl From<ArticleFault> for Trouble as TroubleFromFault {

@@ -1,5 +1,5 @@
 // A tour: a delivery of article codes is checked in, step by step, each told in plain words.
-// Uses `items` and `finders`, and prints.
+// Uses `items`, `finders` and `hashed`, and prints.
 mod delivery;
 mod words;
 use delivery::check_in;
@@ -11,6 +11,9 @@ use finders::finder::Finder;
 use finders::refusal::check_slots;
 use finders::straight::StraightFinder;
 use finders::straight::calls::StraightCalls;
+use hashed::finder::HashedFinder;
+use hashed::finder::calls::HashedCalls;
+use hashed::slot::Slot;
 use items::article::Article;
 use items::article::ArticleKind;
 use items::kind::Kind;
@@ -58,6 +61,33 @@ fn tell_take_out<F: Finder<Article>>(rt: &LibcRuntime, finder: &mut F, code: &st
     }
 }
 
+// The number of each code's refusal, and 0 for a code that is taken.
+fn answers<F: Finder<Article>>(finder: &mut F) -> [u8; 9] {
+    let mut numbers = [0u8; 9];
+    for (i, code) in DELIVERY.iter().enumerate() {
+        if let Err(trouble) = check_in(finder, code.as_bytes(), i) {
+            numbers[i] = trouble.number();
+        }
+    }
+    numbers
+}
+
+fn compare(rt: &LibcRuntime, filler: Article) -> io::Result<()> {
+    let mut bindings = [Binding {
+        item: filler,
+        place: 0,
+    }; 4];
+    let mut slots = [Slot::vacant(filler); 4];
+    let straight = answers(&mut StraightFinder::over(&mut bindings));
+    let hashed = answers(&mut HashedFinder::over(&mut slots));
+    println!(rt, "")?;
+    if straight == hashed {
+        println!(rt, "Through a hashed finder, every code of the delivery gets the same answer.")
+    } else {
+        println!(rt, "Through a hashed finder, some code of the delivery gets another answer.")
+    }
+}
+
 fn receive<F: Finder<Article>>(rt: &LibcRuntime, finder: &mut F) -> io::Result<()> {
     println!(rt, "A delivery of article codes is checked in. The finder has room for {}.", finder.capacity())?;
     let mut place = 0usize;
@@ -93,5 +123,6 @@ fn main(rt: LibcRuntime) -> io::Result<()> {
         return println!(rt, "no finder: refused with {}", refusal.number());
     }
     let mut finder = StraightFinder::over(&mut slots);
-    receive(&rt, &mut finder)
+    receive(&rt, &mut finder)?;
+    compare(&rt, filler)
 }
