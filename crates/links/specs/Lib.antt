@@ -1,0 +1,4 @@
+pub mod Tables
+pub mod Chains
+pub mod Kinds
+pub mod Lists

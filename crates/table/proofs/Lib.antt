@@ -1,0 +1,15 @@
+pub mod Lawful
+pub mod Quiets
+pub mod Grouping
+pub mod Bucketing
+pub mod Hanging
+pub mod Rising
+pub mod Rows
+pub mod Attaching
+pub mod Positions
+pub mod Looking
+pub mod Seats
+pub mod Moving
+pub mod Showing
+pub mod Covering
+pub mod Structuring

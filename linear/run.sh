@@ -1,0 +1,39 @@
+#!/bin/sh
+# The token of a detached counter must be spent once. Each edit here misuses it so that the compiler refuses the code with
+# the error named, before anything is proved; the twin, which stands in the same place, is lawful and must be proved.
+# `rt must-fail` takes only edits that reach the prover, so these have a script of their own.
+here=$(cd "$(dirname "$0")" && pwd) bad=0
+
+field() { sed -n "s/^$2: //p" "$1"; }
+
+# edited EDIT FIELD DIR: a copy of the repository in DIR, with the edit's old text replaced by the field's
+edited() {
+    file=$(field "$1" file)
+    cp -r "$here/../crates.txt" "$here/../crates" "$3"
+    if [ -d "$here/../target" ]; then cp -r "$here/../target" "$3"; fi
+    OLD=$(field "$1" old) NEW=$(field "$1" "$2") awk '
+        { text = text $0 "\n" }
+        END {
+            old = ENVIRON["OLD"]; at = index(text, old)
+            if (!at) exit 3
+            printf "%s%s%s", substr(text, 1, at - 1), ENVIRON["NEW"], substr(text, at + length(old))
+        }' "$here/../$file" >"$3/$file" || { echo "BAD EDIT ${1##*/}"; return 1; }
+}
+
+for edit in "$here"/*.edit; do
+    want=$(field "$edit" error)
+    for kind in new twin; do
+        dir=$(mktemp -d)
+        edited "$edit" "$kind" "$dir" || { bad=1; rm -rf "$dir"; continue; }
+        if (cd "$dir" && rt dev counters) >"$dir/log" 2>&1; then ended=proved
+        elif grep -q "error\[$want\]" "$dir/log"; then ended=refused
+        else ended=other; fi
+        case $kind-$ended in
+            new-refused) echo "refused ${edit##*/}: $want" ;;
+            twin-proved) echo "proved the twin of ${edit##*/}" ;;
+            *) echo "UNEXPECTED ${edit##*/}, $kind: $ended"; grep -m3 error "$dir/log"; bad=1 ;;
+        esac
+        rm -rf "$dir"
+    done
+done
+exit $bad
