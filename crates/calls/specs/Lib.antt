@@ -1,0 +1,12 @@
+pub mod Refusals
+pub mod Reading
+pub mod Lookups
+pub mod Foreign
+pub mod ForeignWords
+pub mod Lists
+pub mod Watching
+pub mod Calls
+pub mod Conditions
+pub mod Truth
+pub mod Sound
+pub mod History

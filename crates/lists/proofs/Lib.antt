@@ -1,0 +1,9 @@
+mod Fronts
+mod Places
+mod Sorting
+mod Listing
+mod Writing
+mod Cuts
+mod Falls
+mod Thresholds
+mod Ends
