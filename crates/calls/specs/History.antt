@@ -13,7 +13,7 @@ use Rattle.calls.specs.declared.refusal.Refusal.{Refusal}
 use Rattle.calls.specs.declared.answers.Line.{Line}
 use Rattle.calls.specs.declared.answers.FrequentList.{FrequentList}
 use Rattle.calls.specs.declared.answers.TopList.{TopList}
-use Rattle.calls.specs.Reading.{Reading, Reliable}
+use Rattle.calls.specs.Reading.{Reading}
 use Rattle.calls.specs.Calls.{OpenAnswered, Opened, HitAnswered, WatchedAnswered, BracketAnswered, FrequentAnswered, TopAnswered}
 use Rattle.calls.specs.Truth.{OpenTruth, HitTruth, WatchedTruth, BracketTruth, FrequentTruth, TopTruth}
 use Rattle.calls.specs.Sound.{SoundTable, Sound}
@@ -109,8 +109,3 @@ module _ {S T F : Type 0} (same : T → T → Bool) (bindings : F → List (Bind
   -- The promise: whatever the order, number and refusals of the calls.
   abbrev pub Promise : Type 0
   Promise = (m : ℕ) (f : F) (r : Result (Unit {0}) Refusal) → OpenAnswered bindings room m f r → KeptFrom m f r
-
--- The promise for every way to store and read a summary. What its links keep to is for the one who stores it to say.
-abbrev pub PromiseOfReadings : {T F : Type 0} → (S : Type 0) → (T → T → Bool) → (F → List (Binding T)) → (F → ℕ) → (F → Type 0) → Type 0
-PromiseOfReadings {T} {F} S same bindings room lawful =
-    (reading : Reading S T) → Reliable reading (λ _. Unit {0}) → Promise same bindings room lawful reading (λ _. Unit {0})

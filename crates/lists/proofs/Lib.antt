@@ -1,9 +1,9 @@
-mod Fronts
-mod Places
-mod Sorting
+pub mod Fronts
+pub mod Places
+pub mod Sorting
 mod Listing
 mod Writing
 mod Cuts
 mod Falls
 mod Thresholds
-mod Ends
+pub mod Ends

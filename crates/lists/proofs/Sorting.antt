@@ -71,7 +71,7 @@ module _ {T : Type 0} where
       pairwise-append _ (rowOf t g) (row t gs) (level (worth t g) (rowOf t g) own) (row-rises t gs (r .1))
       (all-weaker (λ e. e .entry .count ≡ worth t g) (λ e. All (λ f. e .entry .count ≤ f .entry .count) (row t gs)) (λ e same. all-weaker (λ f. worth t g ≤ f .entry .count) (λ f. e .entry .count ≤ f .entry .count) (λ f l. omega arith) (row t gs) above) (rowOf t g) own)
 
-  sorted : (s : Counters T) → Sorted (entries (placed s))
+  pub sorted : (s : Counters T) → Sorted (entries (placed s))
   sorted s =
       ∥∥₁-elim (s .sound) (pairwise-prop _ (λ a b. le-prop) _) (λ st.
       pairwise-map _ (λ e. e .entry) (placed s) (subst Rising (sym (row-sound _ _ _ _ (st .gs) (st .fs) (st .sound))) (row-rises _ (st .gs) (st .sound .rising))))

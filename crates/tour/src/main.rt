@@ -1,7 +1,9 @@
-// A tour: a delivery of article codes is checked in, step by step, each told in plain words.
-// Uses `items`, `finders` and `hashed`, and prints.
+// A tour: a delivery of article codes is checked in, and a morning of label redraws is counted, each step told in plain
+// words. Uses the library as any program would, and prints.
 mod delivery;
+mod morning;
 mod words;
+use calls::answers::Line;
 use delivery::check_in;
 use delivery::look_up;
 use delivery::take_out;
@@ -17,7 +19,14 @@ use hashed::slot::Slot;
 use items::article::Article;
 use items::article::ArticleKind;
 use items::kind::Kind;
+use items::label::Label;
+use items::label::LabelKind;
+use morning::count_morning;
 use std::io;
+use summary::impls::CountersSummary;
+use summary::opening::check_open;
+use summary::opening::open;
+use table::place::Place;
 use words::TroubleDisplay;
 
 // What was delivered: good codes, spoiled ones, and an article that comes again in another width.
@@ -110,6 +119,27 @@ fn receive<F: Finder<Article>>(rt: &LibcRuntime, finder: &mut F) -> io::Result<(
     println!(rt, "Held at the end: {} of the {} that fit.", finder.held(), finder.capacity())
 }
 
+fn count(rt: &LibcRuntime) -> io::Result<()> {
+    let filler = Label { number: 0 };
+    let mut slots = [Binding {
+        item: filler,
+        place: 0,
+    }; 4];
+    let mut places = [Place::vacant(filler); 4];
+    let mut lines = [Line {
+        item: filler,
+        count: 0,
+        error: 0,
+        sure: false,
+    }; 4];
+    let mut finder = StraightFinder::over(&mut slots);
+    if let Err(refusal) = check_open(places.len(), &finder) {
+        return println!(rt, "no summary: refused with {}", refusal.number());
+    }
+    let mut summary = open(&mut places);
+    count_morning(rt, &mut summary, &mut finder, &mut lines)
+}
+
 fn main(rt: LibcRuntime) -> io::Result<()> {
     // Any article fills the slots: a finder is made empty, whatever they hold.
     let Ok(filler) = Article::from_bytes(b"00000000") else {
@@ -124,5 +154,6 @@ fn main(rt: LibcRuntime) -> io::Result<()> {
     }
     let mut finder = StraightFinder::over(&mut slots);
     receive(&rt, &mut finder)?;
-    compare(&rt, filler)
+    compare(&rt, filler)?;
+    count(&rt)
 }

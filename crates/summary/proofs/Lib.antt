@@ -1,0 +1,5 @@
+pub mod Admitting
+pub mod Accepting
+pub mod Answering
+pub mod Surveying
+pub mod Watching
