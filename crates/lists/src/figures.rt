@@ -65,7 +65,7 @@ fn divided_up(a: u64, b: u64) -> u64
 }
 
 // The threshold of a support in so many hits: never above them, but at least 1.
-pub fn threshold(p: u32, q: u32, total: u32) -> u32
+pub(crate) fn threshold(p: u32, q: u32, total: u32) -> u32
     requires { ⌜ Supported p q ⌝ }
     ensures { λ r. ⌜ r ≡ threshold p q total ⌝ }
 {

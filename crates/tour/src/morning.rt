@@ -18,7 +18,7 @@ fn tell_redraw<S: Summary<Label>, F: Finder<Label>>(rt: &LibcRuntime, summary: &
     match summary.watched_hit(finder, TOP, Label { number }) {
         Ok((Some(_), Some(left))) => println!(rt, "  label {number:<3}  enters the top {TOP}, and label {} leaves it", left.number),
         Ok((Some(_), None)) => println!(rt, "  label {number:<3}  enters the top {TOP}"),
-        Ok((None, _)) => println!(rt, "  label {number:<3}"),
+        Ok((None, _)) => println!(rt, "  label {number}"),
         Err(refusal) => println!(rt, "  label {number:<3}  refused with {}", refusal.number()),
     }
 }
