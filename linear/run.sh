@@ -4,6 +4,9 @@
 # `rt must-fail` takes only edits that reach the prover, so these have a script of their own.
 here=$(cd "$(dirname "$0")" && pwd) bad=0
 
+# What the copies are checked against, proved once.
+(cd "$here/.." && rt dev counters >/dev/null) || { echo "counters are not proved"; exit 1; }
+
 field() { sed -n "s/^$2: //p" "$1"; }
 
 # edited EDIT FIELD DIR: a copy of the repository in DIR, with the edit's old text replaced by the field's

@@ -21,7 +21,6 @@ use Rattle.finders.specs.declared.finder.Binding.{Binding}
 use Rattle.finders.specs.Lookup.{lookup}
 use Rattle.table.specs.Placed.{entries}
 use Rattle.calls.specs.declared.refusal.Refusal.{Refusal}
-use Rattle.calls.specs.declared.refusal.Refusal.the-variants.{Size, Capacity, Occupied}
 use Rattle.calls.specs.Refusals.{unlessRefused, openRefusal}
 use Rattle.calls.specs.Reading.{Reading, rowOf, Reliable}
 use Rattle.calls.specs.Lookups.{placeIn}

@@ -3,7 +3,7 @@ use mathlib.Core.Path.{_≡_, refl, sym, ap, _∙_, subst}
 use mathlib.Core.List.{List, [], _∷_, _++_, reverseAux}
 use mathlib.Core.Bool.{Bool, true, false, cond, not}
 use mathlib.Core.Logic.{_⊎_, inl, inr}
-use Prim.Native.Nat.{ℕ, zero, suc, _+_, _≤_, _<_}
+use Prim.Native.Nat.{ℕ, zero, suc, _+_, _≤_}
 use native.Mathlib.Omega.{arith}
 use lib.Dec.{eqb, leb, ltb}
 use lib.ListN.{length, take, length-take, length-map}
@@ -85,9 +85,10 @@ module _ {T : Type 0} (same : T → T → Bool) (laws : Equivalence same) where
 
   all-self : (es : List (Entry T)) → AllListed es es
   all-self [] = tt
-  all-self (e ∷ es) =
-      ( ap (λ b. isSome (cond b (Some e) (entryOf same (e .item) es))) (laws .reflexive (e .item))
-      , all-weaker (λ f. listed same (f .item) es ≡ true) (λ f. listed same (f .item) (e ∷ es) ≡ true) (λ f t. some-either (same (e .item) (f .item)) e (entryOf same (f .item) es) t) es (all-self es) )
+  all-self (e ∷ es) = (
+    ap (λ b. isSome (cond b (Some e) (entryOf same (e .item) es))) (laws .reflexive (e .item)),
+    all-weaker (λ f. listed same (f .item) es ≡ true) (λ f. listed same (f .item) (e ∷ es) ≡ true) (λ f t. some-either (same (e .item) (f .item)) e (entryOf same (f .item) es) t) es (all-self es),
+  )
 
   -- ---- the first new item
 
@@ -168,17 +169,17 @@ module _ {T : Type 0} (same : T → T → Bool) (laws : Equivalence same) where
           let come : Put (raised 1 e) (byPosition rest) (byPosition after) = put-reverse-onto (put-insert (raised 1 e) rest) [] in
           let change : ChangedBy same (suc j) x row after = changed-by-moving same (suc j) x e (raised 1 e) rest row t p sorted (omega arith) in
           let entered = entering (raised 1 e) t (byPosition rest) (byPosition row) (byPosition after) come
-              (fewer (λ f. listed same (f .item) was ≡ true) j gone (all-self was))
-              (λ out away. out ∙ sym (elim (put-take j gone) [
-                | inl q ↦ absurd (both-ways (listed same x was) away (listed-alike same laws (e .item) x was t (listed-put same laws q)))
-                | inr s ↦ s
-              ]))
-              (still-listed (change .1) (change .2)) in
+          (fewer (λ f. listed same (f .item) was ≡ true) j gone (all-self was))
+          (λ out away. out ∙ sym (elim (put-take j gone) [
+            | inl q ↦ absurd (both-ways (listed same x was) away (listed-alike same laws (e .item) x was t (listed-put same laws q)))
+            | inr s ↦ s
+          ]))
+          (still-listed (change .1) (change .2)) in
           let either = more (λ f. (f ≡ e) ⊎ (listed same (f .item) is ≡ true)) j gone (inl refl)
-              (all-weaker (λ f. listed same (f .item) is ≡ true) (λ f. (f ≡ e) ⊎ (listed same (f .item) is ≡ true)) (λ f u. inr u) (take j (byPosition rest)) (fewer (λ f. listed same (f .item) is ≡ true) j come (all-self is))) in
+          (all-weaker (λ f. listed same (f .item) is ≡ true) (λ f. (f ≡ e) ⊎ (listed same (f .item) is ≡ true)) (λ f u. inr u) (take j (byPosition rest)) (fewer (λ f. listed same (f .item) is ≡ true) j come (all-self is))) in
           let kept = all-both (λ f. (f ≡ e) ⊎ (listed same (f .item) is ≡ true)) (λ f. same (f .item) x ≡ true → listed same (f .item) is ≡ true) (λ f. listed same (f .item) is ≡ true)
-              (λ f o g. elim o [ inl i ↦ g (ap (λ (d : Entry T). same (d .item) x) i ∙ t) | inr u ↦ u ]) (take j (byPosition row)) either
-              (one-less (λ f. same (f .item) x ≡ true → listed same (f .item) is ≡ true) j (byPosition row) (none-goes (change .1) (change .2))) in
+          (λ f o g. elim o [ inl i ↦ g (ap (λ (d : Entry T). same (d .item) x) i ∙ t) | inr u ↦ u ]) (take j (byPosition row)) either
+          (one-less (λ f. same (f .item) x ≡ true → listed same (f .item) is ≡ true) j (byPosition row) (none-goes (change .1) (change .2))) in
           both entered (last-new j (byPosition row) is kept)
 
       -- x joins.
@@ -213,12 +214,12 @@ module _ {T : Type 0} (same : T → T → Bool) (laws : Equivalence same) where
           let front : take j (byPosition (e ∷ rest)) ≡ take j others = ap (take j) ends ∙ take-append-le j others (e ∷ []) (omega arith) in
           both
           (entering new t others (byPosition (e ∷ rest)) (byPosition after) come
-            (fewer (λ f. listed same (f .item) was ≡ true) j gone (all-self was))
-            (λ out away. out ∙ sym (elim (room j (length others) (omega arith)) [
-              | inl l ↦ ap (take (suc j)) ends ∙ take-append-le (suc j) others (e ∷ []) l
-              | inr q ↦ absurd (let a = ap length out in let b = length-take (suc j) (byPosition after) in let c = length-take (suc j) others in let d = put-length come in omega arith)
-            ]))
-            (still-listed (change .1) (change .2)))
+          (fewer (λ f. listed same (f .item) was ≡ true) j gone (all-self was))
+          (λ out away. out ∙ sym (elim (room j (length others) (omega arith)) [
+            | inl l ↦ ap (take (suc j)) ends ∙ take-append-le (suc j) others (e ∷ []) l
+            | inr q ↦ absurd (let a = ap length out in let b = length-take (suc j) (byPosition after) in let c = length-take (suc j) others in let d = put-length come in omega arith)
+          ]))
+          (still-listed (change .1) (change .2)))
           (last-new j (byPosition (e ∷ rest)) is (subst (λ es. AllListed es is) (sym front) (fewer (λ f. listed same (f .item) is ≡ true) j come (all-self is))))
 
   -- ---- a hit on the placed row

@@ -32,6 +32,7 @@ module _ {T : Type 0} where
 
   -- A hit with x, whose entry holds the form given, between two rows.
   abbrev pub told : (T → T → Bool) → ℕ → T → T → List (Entry T) → List (Entry T) → Option T × Option T
-  told same k x form before after =
-      ( enteredBy (listed same x (take k (byPosition before))) (listed same x (take k (byPosition after))) form
-      , leftBy same (lastItem (take k (byPosition before))) (take k (byPosition after)) )
+  told same k x form before after = (
+    enteredBy (listed same x (take k (byPosition before))) (listed same x (take k (byPosition after))) form,
+    leftBy same (lastItem (take k (byPosition before))) (take k (byPosition after)),
+  )

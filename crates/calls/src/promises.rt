@@ -5,5 +5,4 @@ use items::kind::Kind;
 // When a finder is foreign, and when it is not.
 pub fn foreign_finders_are_told<T: Kind>()
     ensures { λ _. ⌜ ForeignExactly (T·Kind .same) ⌝ }
-{
-}
+{}

@@ -79,11 +79,11 @@ module _ {Item : Type 0} (same : Item → Item → Bool) where
     lookup-out {b} (there {f} {rest} o) apart x =
         ⊎-elim
         (λ (t : same x (f .item) ≡ true).
-            let other : same x (b .item) ≡ false = alike x (f .item) (b .item) t ∙ all-out (λ c. same (f .item) (c .item) ≡ false) o (apart .0) .0 in
-            cond-true _ _ _ t ∙ sym (cond-false _ _ _ other ∙ cond-true _ _ _ t))
+        let other : same x (b .item) ≡ false = alike x (f .item) (b .item) t ∙ all-out (λ c. same (f .item) (c .item) ≡ false) o (apart .0) .0 in
+        cond-true _ _ _ t ∙ sym (cond-false _ _ _ other ∙ cond-true _ _ _ t))
         (λ (n : same x (f .item) ≡ false).
-            cond-false _ _ _ n ∙ lookup-out o (apart .1) x
-            ∙ ap (λ (p : Option ℕ). cond (same x (b .item)) (Some (b .place)) p) (sym (cond-false _ _ _ n)))
+        cond-false _ _ _ n ∙ lookup-out o (apart .1) x
+        ∙ ap (λ (p : Option ℕ). cond (same x (b .item)) (Some (b .place)) p) (sym (cond-false _ _ _ n)))
         (cases-bool (same x (f .item)))
 
     pub entered : {b : Binding Item} {before after : List (Binding Item)} → Put b before after → Apart same after → Entered same before (b .item) (b .place) after
@@ -97,9 +97,9 @@ module _ {Item : Type 0} (same : Item → Item → Bool) where
         places y =
             ⊎-elim
             (λ (t : same y x ≡ true).
-                nowhere after y (lacks-alike after (b .item) y (laws .symmetric _ _ (laws .transitive y x (b .item) t found)) (apart-out o apart .0))
-                ∙ sym (cond-true _ _ _ t))
+            nowhere after y (lacks-alike after (b .item) y (laws .symmetric _ _ (laws .transitive y x (b .item) t found)) (apart-out o apart .0))
+            ∙ sym (cond-true _ _ _ t))
             (λ (n : same y x ≡ false).
-                let other : same y (b .item) ≡ false = not-true _ (λ u. both-ways _ n (laws .transitive y (b .item) x u (laws .symmetric _ _ found))) in
-                sym (cond-false _ _ _ n ∙ lookup-out o apart y ∙ cond-false _ _ _ other))
+            let other : same y (b .item) ≡ false = not-true _ (λ u. both-ways _ n (laws .transitive y (b .item) x u (laws .symmetric _ _ found))) in
+            sym (cond-false _ _ _ n ∙ lookup-out o apart y ∙ cond-false _ _ _ other))
             (cases-bool (same y x))

@@ -33,9 +33,9 @@ module _ {X : Type 0} where
     rest = front ++ (back ++ last ∷ []);
     out = put-between front (back ++ last ∷ []);
     moved = moves
-      (subst (λ zs. Put last zs (front ++ (back ++ last ∷ []))) (ap (λ (zs : List X). front ++ zs) (append-nil back))
+        (subst (λ zs. Put last zs (front ++ (back ++ last ∷ []))) (ap (λ (zs : List X). front ++ zs) (append-nil back))
         (subst (Put last (front ++ (back ++ []))) (append-assoc front back (last ∷ [])) (subst (λ zs. Put last zs ((front ++ back) ++ last ∷ [])) (append-assoc front back []) (put-between (front ++ back) []))))
-      (put-between front back);
+        (put-between front back);
   }
 
   closed-end : (front : List X) (e : X) → Closed e (front ++ e ∷ []) front
@@ -50,20 +50,20 @@ module _ {X : Type 0} where
   closed xs m i d low high =
       ⊎-elim
       (λ (less : i < m).
-          let long : length (take m xs) ≡ m = length-take-le m xs (omega arith) in
-          let inside : i < length (take m xs) = omega arith in
-          let split : take m xs ≡ take i (take m xs) ++ getD xs i d ∷ drop (suc i) (take m xs) =
-              sym (set-getD (take m xs) i d) ∙ set-split (take m xs) i (getD (take m xs) i d) inside
-              ∙ ap (λ (x : X). take i (take m xs) ++ x ∷ drop (suc i) (take m xs)) (getD-take m xs i d less) in
-          let before : take (m + 1) xs ≡ take i (take m xs) ++ getD xs i d ∷ (drop (suc i) (take m xs) ++ getD xs m d ∷ []) =
-              take-more xs m d high ∙ ap (λ (zs : List X). zs ++ getD xs m d ∷ []) split
-              ∙ append-assoc (take i (take m xs)) (getD xs i d ∷ drop (suc i) (take m xs)) (getD xs m d ∷ []) in
-          let after : take m (set xs i (getD xs m d)) ≡ take i (take m xs) ++ getD xs m d ∷ drop (suc i) (take m xs) =
-              take-set-lt m xs i (getD xs m d) less ∙ set-split (take m xs) i (getD xs m d) inside in
-          rw (before, after) (closed-middle (take i (take m xs)) (drop (suc i) (take m xs)) (getD xs i d) (getD xs m d)))
+      let long : length (take m xs) ≡ m = length-take-le m xs (omega arith) in
+      let inside : i < length (take m xs) = omega arith in
+      let split : take m xs ≡ take i (take m xs) ++ getD xs i d ∷ drop (suc i) (take m xs) =
+      sym (set-getD (take m xs) i d) ∙ set-split (take m xs) i (getD (take m xs) i d) inside
+      ∙ ap (λ (x : X). take i (take m xs) ++ x ∷ drop (suc i) (take m xs)) (getD-take m xs i d less) in
+      let before : take (m + 1) xs ≡ take i (take m xs) ++ getD xs i d ∷ (drop (suc i) (take m xs) ++ getD xs m d ∷ []) =
+      take-more xs m d high ∙ ap (λ (zs : List X). zs ++ getD xs m d ∷ []) split
+      ∙ append-assoc (take i (take m xs)) (getD xs i d ∷ drop (suc i) (take m xs)) (getD xs m d ∷ []) in
+      let after : take m (set xs i (getD xs m d)) ≡ take i (take m xs) ++ getD xs m d ∷ drop (suc i) (take m xs) =
+      take-set-lt m xs i (getD xs m d) less ∙ set-split (take m xs) i (getD xs m d) inside in
+      rw (before, after) (closed-middle (take i (take m xs)) (drop (suc i) (take m xs)) (getD xs i d) (getD xs m d)))
       (λ (ge : m ≤ i).
-          let same : i ≡ m = omega arith in
-          let before : take (m + 1) xs ≡ take m xs ++ getD xs m d ∷ [] = take-more xs m d high in
-          let after : take m (set xs i (getD xs m d)) ≡ take m xs = take-set-le m xs i (getD xs m d) ge in
-          rw (before, after, same) (closed-end (take m xs) (getD xs m d)))
+      let same : i ≡ m = omega arith in
+      let before : take (m + 1) xs ≡ take m xs ++ getD xs m d ∷ [] = take-more xs m d high in
+      let after : take m (set xs i (getD xs m d)) ≡ take m xs = take-set-le m xs i (getD xs m d) ge in
+      rw (before, after, same) (closed-end (take m xs) (getD xs m d)))
       (cases-lt i m)

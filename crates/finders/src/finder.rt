@@ -68,5 +68,4 @@ pub trait Finder<T: Kind> {
 // Whatever the bindings are, same items are found at the same place.
 pub fn same_items_share_a_place<T: Kind>()
     ensures { λ _. ⌜ LookupsAgree (T·Kind .same) ⌝ }
-{
-}
+{}

@@ -5,6 +5,7 @@ ghost use denote.Ref.{now};
 
 pub mod calls;
 mod front;
+
 use front::Front;
 
 #[derive(Drop)]

@@ -35,9 +35,11 @@ spells bytes x made = by-length (lengthOf (length bytes)) refl made
     by-check : (l : Length) → lengthOf (length bytes) ≡ Some l → allDigits bytes ≡ true → (b : Bool) → checked (digits bytes) ≡ b → cond b (Ok (record { number = numberOf (digits bytes); length = l })) (Err WrongCheckDigit) ≡ Ok x → Spells bytes x
     by-check l known spelled true right m = record { spelled = spelled; right = right; number = cc; count = let e : x .length ≡ l = cc in ap digitCount e ∙ count-known (length bytes) l known }
     by-check l known spelled false wrong m = let z : _≡_ {A = ℕ} 0 1 = cc in absurd (omega arith)
+
     by-digits : (l : Length) → lengthOf (length bytes) ≡ Some l → (b : Bool) → allDigits bytes ≡ b → cond b (cond (checked (digits bytes)) (Ok (record { number = numberOf (digits bytes); length = l })) (Err WrongCheckDigit)) (Err NotADigit) ≡ Ok x → Spells bytes x
     by-digits l known true spelled m = by-check l known spelled (checked (digits bytes)) refl m
     by-digits l known false broken m = let z : _≡_ {A = ℕ} 0 1 = cc in absurd (omega arith)
+
     by-length : (o : Option Length) → lengthOf (length bytes) ≡ o → ifLength o bytes ≡ Ok x → Spells bytes x
     by-length None known m = let z : _≡_ {A = ℕ} 0 1 = cc in absurd (omega arith)
     by-length (Some l) known m = by-digits l known (allDigits bytes) refl m
@@ -54,15 +56,15 @@ article-laws = record {
   zeros-keep-check = checked-zeros;
   zeros-keep-number = numberOf-zeros;
   same-if-filled = λ a b x y p q agree.
-    let unfilled : numberOf (digits a) ≡ numberOf (digits b) =
-        sym (numberOf-zeros (14 - length (digits a)) (digits a)) ∙ ap numberOf agree ∙ numberOf-zeros (14 - length (digits b)) (digits b) in
-    eq-eqb _ _ (spells a x p .number ∙ unfilled ∙ sym (spells b y q .number));
+      let unfilled : numberOf (digits a) ≡ numberOf (digits b) =
+      sym (numberOf-zeros (14 - length (digits a)) (digits a)) ∙ ap numberOf agree ∙ numberOf-zeros (14 - length (digits b)) (digits b) in
+      eq-eqb _ _ (spells a x p .number ∙ unfilled ∙ sym (spells b y q .number));
   filled-if-same = λ a b x y p q same.
-    let here = spells a x p in
-    let there = spells b y q in
-    filled-tells (digits a) (digits b)
-    (omega (arith, length-map a (λ c. c - 48), here .count, short (x .length)))
-    (omega (arith, length-map b (λ c. c - 48), there .count, short (y .length)))
-    (digits-under a (here .spelled)) (digits-under b (there .spelled))
-    (sym (here .number) ∙ eqb-true _ _ same ∙ there .number);
+      let here = spells a x p in
+      let there = spells b y q in
+      filled-tells (digits a) (digits b)
+      (omega (arith, length-map a (λ c. c - 48), here .count, short (x .length)))
+      (omega (arith, length-map b (λ c. c - 48), there .count, short (y .length)))
+      (digits-under a (here .spelled)) (digits-under b (there .spelled))
+      (sym (here .number) ∙ eqb-true _ _ same ∙ there .number);
 }

@@ -61,7 +61,7 @@ numberOf-tells : (ds es : List ℕ) → length ds ≡ length es → Under 10 ds 
 numberOf-tells ds es long u v same =
     let read : (cs : List ℕ) → numberOf cs ≡ from-right (reverse cs) = λ cs. ap numberOf (sym (reverse-reverse cs)) ∙ numberOf-from-right (reverse cs) in
     let turned : reverse ds ≡ reverse es =
-        from-right-tells (reverse ds) (reverse es) (omega (arith, length-reverse ds, length-reverse es)) (under-reversed ds u) (under-reversed es v) (sym (read ds) ∙ same ∙ read es) in
+    from-right-tells (reverse ds) (reverse es) (omega (arith, length-reverse ds, length-reverse es)) (under-reversed ds u) (under-reversed es v) (sym (read ds) ∙ same ∙ read es) in
     sym (reverse-reverse ds) ∙ ap reverse turned ∙ reverse-reverse es
 
 -- ---- filled to fourteen digits
@@ -77,5 +77,6 @@ filled-tells ds es short short′ u v same =
   where
     wide : (cs : List ℕ) → length cs ≤ 14 → length (filled cs) ≡ 14
     wide cs s = omega (arith, length-append (replicate (14 - length cs) 0) cs, length-replicate {A = ℕ} (14 - length cs) 0)
+
     under-filled : (cs : List ℕ) → Under 10 cs → Under 10 (filled cs)
     under-filled cs = all-append (λ n. n < 10) (replicate (14 - length cs) 0) cs (under-zeros (14 - length cs))

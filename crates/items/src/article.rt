@@ -152,5 +152,4 @@ pub impl Kind for Article as ArticleKind {
 // None is made without a right check digit, and zeros on the left do not matter.
 pub fn articles_keep_their_laws()
     ensures { λ _. ⌜ ArticleLaws ⌝ }
-{
-}
+{}

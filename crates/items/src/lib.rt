@@ -4,6 +4,5 @@ pub mod article;
 pub mod fault;
 pub mod kind;
 pub mod label;
-
 #[cfg(test)]
 mod tests;

@@ -29,7 +29,11 @@ fn spoiled(code: &[u8], at: usize) -> [u8; 14] {
     let mut bytes = [b'0'; 14];
     for (i, b) in code.iter().enumerate() {
         if i < 14 {
-            bytes[i] = if i == at { b'0' + b.wrapping_sub(b'0').wrapping_add(1) % 10 } else { *b };
+            bytes[i] = if i == at {
+                b'0' + b.wrapping_sub(b'0').wrapping_add(1) % 10
+            } else {
+                *b
+            };
         }
     }
     bytes

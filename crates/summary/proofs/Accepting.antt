@@ -1,10 +1,10 @@
 -- The writes of an admitted hit make it an accepted one.
-use mathlib.Core.Path.{_≡_, refl, sym, ap, _∙_, subst}
+use mathlib.Core.Path.{_≡_, refl, sym, ap, _∙_}
 use mathlib.Core.List.{List, [], _∷_}
-use mathlib.Core.Bool.{Bool, true, false, cond, not, _&&_}
+use mathlib.Core.Bool.{Bool, true, false, cond, _&&_}
 use Prim.Native.Nat.{ℕ, _+_, _≤_, _<_}
 use native.Mathlib.Omega.{arith}
-use lib.Dec.{eqb, leb, ltb}
+use lib.Dec.{leb, ltb}
 use lib.ListN.{length}
 use Rattle.std.specs.declared.option.Option.{Option}
 use Rattle.std.specs.declared.option.Option.the-variants.{Some, None}
@@ -73,10 +73,11 @@ module _ {T F : Type 0} (same : T → T → Bool) (bindings : F → List (Bindin
         first-is (e ∷ row) is find own =
             let b : record { item = e .entry .item; place = e .place } ≡ old = cc in
             let i : e .entry .item ≡ old .item = ap (λ (q : Binding T). q .item) b in
-            let p : e .place ≡ old .place = ap (λ (q : Binding T). q .place) b in
-            ( ap find (sym i) ∙ given-place (find (e .entry .item)) (e .place) (not-false (gives (find (e .entry .item)) (e .place)) own) ∙ ap Some p
-            , (λ y. ap (λ (q : ℕ). withItem same x q (λ z. cond (same z (e .entry .item)) None (find z)) y) p ∙ ap (λ (w : T). withItem same x (old .place) (λ z. cond (same z w) None (find z)) y) i)
-            , omega arith )
+            let p : e .place ≡ old .place = ap (λ (q : Binding T). q .place) b in (
+              ap find (sym i) ∙ given-place (find (e .entry .item)) (e .place) (not-false (gives (find (e .entry .item)) (e .place)) own) ∙ ap Some p,
+              (λ y. ap (λ (q : ℕ). withItem same x q (λ z. cond (same z (e .entry .item)) None (find z)) y) p ∙ ap (λ (w : T). withItem same x (old .place) (λ z. cond (same z w) None (find z)) y) i),
+              omega arith,
+            )
 
         pub taken-over : firstBinding (placed s) ≡ Some old → Rebound same bindings room lawful f old x f′ →
             made ≡ (ltb 0 (length (placed s)) && ltb (s .total) limit) → Moved s s′ made (overtaken x (placed s)) →

@@ -1,8 +1,9 @@
--- How counters are read as a summary: their placed row, and their numbers.
+-- How counters are read as a summary: their placed row, and their numbers; and what their links keep to.
 use lib.ListN.{length}
-use Rattle.counters.specs.Meaning.{size, placed, Structured as Structure}
-use Rattle.calls.specs.Reading.{Reading}
 use Rattle.counters.specs.declared.counters.Counters.{Counters}
+use Rattle.counters.specs.Meaning.{size, placed}
+pub use Rattle.counters.specs.Meaning.{Structured}
+use Rattle.calls.specs.Reading.{Reading}
 
 abbrev pub reading : {T : Type 0} → Reading (Counters T) T
 reading = record {
@@ -11,7 +12,3 @@ reading = record {
   used = λ s. length (placed s);
   total = λ s. s .total;
 }
-
--- What the links of its table keep to.
-abbrev pub Structured : {T : Type 0} → Counters T → Type 0
-Structured s = Structure s

@@ -5,7 +5,8 @@ ghost use Rattle.summary.specs.Meaning.{reading};
 ghost use Rattle.summary.specs.Steps.{firstBinding, entryHolds, Located, NewcomerChecked, FirstChecked, Admitted};
 use calls::refusal::Refusal;
 use counters::counters::Counters;
-use finders::finder::{Binding, Finder};
+use finders::finder::Binding;
+use finders::finder::Finder;
 use items::kind::Kind;
 
 /// Whether the counter at the place is in use and holds a same item.
@@ -35,7 +36,11 @@ pub fn first<'a, T: Kind + Copy + Drop>(counters: &Counters<'a, T>) -> Option<Bi
 }
 
 /// Where the item's counter is, by the finder; none if it has none.
-pub fn locate<'a, T: Kind + Copy + Drop, F: Finder<T>>(counters: &Counters<'a, T>, finder: &F, item: &T) -> Result<Option<usize>, Refusal>
+pub fn locate<'a, T: Kind + Copy + Drop, F: Finder<T>>(
+    counters: &Counters<'a, T>,
+    finder: &F,
+    item: &T,
+) -> Result<Option<usize>, Refusal>
     ensures { λ r. ⌜ Located (T·Kind .same) (F·Finder .bindings) (F·Finder .lawful) (now (counters .entry)) (now (finder .entry)) (now (item .entry)) r ⌝ }
 {
     match finder.find(item) {
@@ -51,7 +56,10 @@ pub fn locate<'a, T: Kind + Copy + Drop, F: Finder<T>>(counters: &Counters<'a, T
 }
 
 /// Whether the finder can let the lowest counter's item go.
-fn check_first<'a, T: Kind + Copy + Drop, F: Finder<T>>(counters: &Counters<'a, T>, finder: &F) -> Result<(), Refusal>
+fn check_first<'a, T: Kind + Copy + Drop, F: Finder<T>>(
+    counters: &Counters<'a, T>,
+    finder: &F,
+) -> Result<(), Refusal>
     ensures { λ r. ⌜ FirstChecked (T·Kind .same) (F·Finder .bindings) (F·Finder .lawful) (now (counters .entry)) (now (finder .entry)) r ⌝ }
 {
     match first(counters) {
@@ -70,7 +78,10 @@ fn check_first<'a, T: Kind + Copy + Drop, F: Finder<T>>(counters: &Counters<'a, 
 }
 
 /// Whether the finder can take in an item that has no counter.
-fn check_newcomer<'a, T: Kind + Copy + Drop, F: Finder<T>>(counters: &Counters<'a, T>, finder: &F) -> Result<(), Refusal>
+fn check_newcomer<'a, T: Kind + Copy + Drop, F: Finder<T>>(
+    counters: &Counters<'a, T>,
+    finder: &F,
+) -> Result<(), Refusal>
     ensures { λ r. ⌜ NewcomerChecked (T·Kind .same) (F·Finder .bindings) (F·Finder .room) (F·Finder .lawful) (now (counters .entry)) (now (finder .entry)) r ⌝ }
 {
     if counters.used() >= counters.size() {
@@ -83,7 +94,11 @@ fn check_newcomer<'a, T: Kind + Copy + Drop, F: Finder<T>>(counters: &Counters<'
 }
 
 /// Whether a hit of the item can be counted, and where its counter is; none if it has none.
-pub fn admit<'a, T: Kind + Copy + Drop, F: Finder<T>>(counters: &Counters<'a, T>, finder: &F, item: &T) -> Result<Option<usize>, Refusal>
+pub fn admit<'a, T: Kind + Copy + Drop, F: Finder<T>>(
+    counters: &Counters<'a, T>,
+    finder: &F,
+    item: &T,
+) -> Result<Option<usize>, Refusal>
     ensures { λ r. ⌜ Admitted (T·Kind .same) (F·Finder .bindings) (F·Finder .room) (F·Finder .lawful) (now (counters .entry)) (now (finder .entry)) (now (item .entry)) r ⌝ }
 {
     if counters.total() == u32::MAX {

@@ -1,15 +1,12 @@
 // The writes of a hit that was admitted. The finder's calls are not refused then, and neither are the moves.
-ghost use mathlib.Core.Path.{_≡_};
-ghost use Prim.Native.Nat.{ℕ, _+_, _≤_, _<_};
-ghost use lib.ListN.{length};
-ghost use Rattle.std.specs.declared.option.Option.the-variants.{Some, None};
-ghost use Rattle.finders.specs.Lookup.{lookup};
-ghost use Rattle.calls.specs.Lookups.{withItem, withoutItem};
+ghost use Prim.Native.Nat.{_≤_, _<_};
+ghost use Rattle.std.specs.declared.option.Option.the-variants.{None};
 ghost use Rattle.summary.specs.Meaning.{reading};
 ghost use Rattle.summary.specs.Steps.{Bound, Rebound, Counted};
-use counters::counters::Counters;
 use crate::admission::first;
-use finders::finder::{Binding, Finder};
+use counters::counters::Counters;
+use finders::finder::Binding;
+use finders::finder::Finder;
 use items::kind::Kind;
 
 /// Binds an item that is not found, while there is room.
@@ -28,7 +25,11 @@ fn rebind<T: Kind + Drop, F: Finder<T>>(finder: &mut F, old: &Binding<T>, item: 
 }
 
 /// A newcomer gets an unused counter.
-fn join<'a, T: Kind + Copy + Drop, F: Finder<T>>(counters: &mut Counters<'a, T>, finder: &mut F, item: T)
+fn join<'a, T: Kind + Copy + Drop, F: Finder<T>>(
+    counters: &mut Counters<'a, T>,
+    finder: &mut F,
+    item: T,
+)
     ensures { λ _. ⌜ (reading .used (now (counters .entry)) < reading .size (now (counters .entry)) → Counted (T·Kind .same) (F·Finder .bindings) (F·Finder .room) (F·Finder .lawful) (now (counters .entry)) (now (finder .entry)) item None (now (counters .exit)) (now (finder .exit))) ⌝ }
 {
     let place = counters.used();
@@ -37,7 +38,11 @@ fn join<'a, T: Kind + Copy + Drop, F: Finder<T>>(counters: &mut Counters<'a, T>,
 }
 
 /// A newcomer takes over the lowest counter.
-fn take_over<'a, T: Kind + Copy + Drop, F: Finder<T>>(counters: &mut Counters<'a, T>, finder: &mut F, item: T)
+fn take_over<'a, T: Kind + Copy + Drop, F: Finder<T>>(
+    counters: &mut Counters<'a, T>,
+    finder: &mut F,
+    item: T,
+)
     ensures { λ _. ⌜ (reading .size (now (counters .entry)) ≤ reading .used (now (counters .entry)) → Counted (T·Kind .same) (F·Finder .bindings) (F·Finder .room) (F·Finder .lawful) (now (counters .entry)) (now (finder .entry)) item None (now (counters .exit)) (now (finder .exit))) ⌝ }
 {
     if let Some(first) = first(counters) {
@@ -47,7 +52,12 @@ fn take_over<'a, T: Kind + Copy + Drop, F: Finder<T>>(counters: &mut Counters<'a
 }
 
 /// Counts a hit of the item, whose counter is at the place; it has none if there is no place.
-pub fn count<'a, T: Kind + Copy + Drop, F: Finder<T>>(counters: &mut Counters<'a, T>, finder: &mut F, item: T, place: Option<usize>)
+pub fn count<'a, T: Kind + Copy + Drop, F: Finder<T>>(
+    counters: &mut Counters<'a, T>,
+    finder: &mut F,
+    item: T,
+    place: Option<usize>,
+)
     ensures { λ _. ⌜ Counted (T·Kind .same) (F·Finder .bindings) (F·Finder .room) (F·Finder .lawful) (now (counters .entry)) (now (finder .entry)) item place (now (counters .exit)) (now (finder .exit)) ⌝ }
 {
     match place {

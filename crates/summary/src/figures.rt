@@ -6,11 +6,15 @@ ghost use Rattle.calls.specs.Reading.{rowOf};
 ghost use Rattle.calls.specs.Watching.{formOf};
 ghost use Rattle.summary.specs.Meaning.{reading};
 use counters::counters::Counters;
-use lists::figures::{lower, outside};
+use lists::figures::lower;
+use lists::figures::outside;
 use rows::entry::Entry;
 
 /// The entry at the place, if there is one.
-pub fn entry_at<'a, T: Copy + Drop>(counters: &Counters<'a, T>, place: Option<usize>) -> Option<Entry<T>>
+pub fn entry_at<'a, T: Copy + Drop>(
+    counters: &Counters<'a, T>,
+    place: Option<usize>,
+) -> Option<Entry<T>>
     ensures { λ r. ⌜ r ≡ entryAt (reading .placed (now (counters .entry))) place ⌝ }
 {
     match place {
@@ -20,7 +24,10 @@ pub fn entry_at<'a, T: Copy + Drop>(counters: &Counters<'a, T>, place: Option<us
 }
 
 /// The bracket of an item with this entry, or without one.
-pub fn figures<'a, T: Copy + Drop>(counters: &Counters<'a, T>, entry: Option<Entry<T>>) -> (u32, u32)
+pub fn figures<'a, T: Copy + Drop>(
+    counters: &Counters<'a, T>,
+    entry: Option<Entry<T>>,
+) -> (u32, u32)
     ensures { λ r. ⌜ r ≡ bracketAt (outside (reading .size (now (counters .entry))) (rowOf reading (now (counters .entry)))) entry ⌝ }
 {
     match entry {

@@ -1,13 +1,19 @@
 // The counters as a summary.
 ghost use Rattle.summary.specs.Meaning.{reading, Structured};
-use calls::answers::{FrequentList, Line, TopList};
+use crate::admission::admit;
+use crate::admission::locate;
+use crate::counting::count;
+use crate::figures::entry_at;
+use crate::figures::figures;
+use crate::figures::form_of;
+use crate::leaders::changes;
+use crate::leaders::survey;
+use crate::summary::Summary;
+use calls::answers::FrequentList;
+use calls::answers::Line;
+use calls::answers::TopList;
 use calls::refusal::Refusal;
 use counters::counters::Counters;
-use crate::admission::{admit, locate};
-use crate::counting::count;
-use crate::figures::{entry_at, figures, form_of};
-use crate::leaders::{changes, survey};
-use crate::summary::Summary;
 use finders::finder::Finder;
 use items::kind::Kind;
 use lists::checks::check_rank;
@@ -37,8 +43,13 @@ pub impl<'a, T: Kind + Copy + Drop> Summary<T> for Counters<'a, T> as CountersSu
         Ok(())
     }
 
-    fn watched_hit<F: Finder<T>>(&mut self, finder: &mut F, k: usize, item: T) -> Result<(Option<T>, Option<T>), Refusal> {
-        check_rank(Counters::size(self), k)?;
+    fn watched_hit<F: Finder<T>>(
+        &mut self,
+        finder: &mut F,
+        k: usize,
+        item: T,
+    ) -> Result<(Option<T>, Option<T>), Refusal> {
+        check_rank(self.size(), k)?;
         let place = admit(self, finder, &item)?;
         let form = form_of(entry_at(self, place), item);
         let before = survey(self, k, &item);

@@ -33,7 +33,11 @@ impl<T: Kind + Copy + Drop> Standing<T> {
 }
 
 /// How the item stands to the first k positions.
-pub fn survey<'a, T: Kind + Copy + Drop>(counters: &Counters<'a, T>, k: usize, item: &T) -> Standing<T>
+pub fn survey<'a, T: Kind + Copy + Drop>(
+    counters: &Counters<'a, T>,
+    k: usize,
+    item: &T,
+) -> Standing<T>
     ensures leads { λ r. ⌜ r .leads ≡ listed (T·Kind .same) (now (item .entry)) (take k (byPosition (rowOf reading (now (counters .entry))))) ⌝ }
     ensures last { λ r. ⌜ r .last ≡ lastItem (take k (byPosition (rowOf reading (now (counters .entry))))) ⌝ }
 {
@@ -52,7 +56,13 @@ pub fn survey<'a, T: Kind + Copy + Drop>(counters: &Counters<'a, T>, k: usize, i
 }
 
 // What the item entered as, if it leads now and did not before; `form` is what its entry holds.
-fn entered<'a, T: Kind + Copy + Drop>(counters: &Counters<'a, T>, k: usize, item: &T, form: T, led: bool) -> Option<T>
+fn entered<'a, T: Kind + Copy + Drop>(
+    counters: &Counters<'a, T>,
+    k: usize,
+    item: &T,
+    form: T,
+    led: bool,
+) -> Option<T>
     ensures { λ r. ⌜ r ≡ enteredBy led (listed (T·Kind .same) (now (item .entry)) (take k (byPosition (rowOf reading (now (counters .entry)))))) form ⌝ }
 {
     if led {
@@ -66,7 +76,11 @@ fn entered<'a, T: Kind + Copy + Drop>(counters: &Counters<'a, T>, k: usize, item
 }
 
 // The item that was the last to lead, if it does not lead now.
-fn left<'a, T: Kind + Copy + Drop>(counters: &Counters<'a, T>, k: usize, last: Option<T>) -> Option<T>
+fn left<'a, T: Kind + Copy + Drop>(
+    counters: &Counters<'a, T>,
+    k: usize,
+    last: Option<T>,
+) -> Option<T>
     ensures { λ r. ⌜ r ≡ leftBy (T·Kind .same) last (take k (byPosition (rowOf reading (now (counters .entry))))) ⌝ }
 {
     match last {
@@ -82,8 +96,16 @@ fn left<'a, T: Kind + Copy + Drop>(counters: &Counters<'a, T>, k: usize, last: O
 }
 
 /// What entered and what left the first k positions by a hit of the item, by how it stood before.
-pub fn changes<'a, T: Kind + Copy + Drop>(counters: &Counters<'a, T>, k: usize, item: &T, form: T, before: Standing<T>) -> (Option<T>, Option<T>)
+pub fn changes<'a, T: Kind + Copy + Drop>(
+    counters: &Counters<'a, T>,
+    k: usize,
+    item: &T,
+    form: T,
+    before: Standing<T>,
+) -> (Option<T>, Option<T>)
     ensures { λ r. ⌜ r ≡ (enteredBy (before .leads) (listed (T·Kind .same) (now (item .entry)) (take k (byPosition (rowOf reading (now (counters .entry)))))) form, leftBy (T·Kind .same) (before .last) (take k (byPosition (rowOf reading (now (counters .entry)))))) ⌝ }
 {
-    (entered(counters, k, item, form, before.leads), left(counters, k, before.last))
+    let entered = entered(counters, k, item, form, before.leads);
+    let left = left(counters, k, before.last);
+    (entered, left)
 }

@@ -8,5 +8,4 @@ use items::kind::Kind;
 /// refusals, summary and finder stay sound and every answer is true of the hits accepted before it.
 pub fn histories_keep_the_promise<T: Kind + Copy + Drop, F: Finder<T>>()
     ensures { λ _. ⌜ Promise (T·Kind .same) (F·Finder .bindings) (F·Finder .room) (F·Finder .lawful) reading Structured ⌝ }
-{
-}
+{}

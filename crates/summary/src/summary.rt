@@ -4,7 +4,9 @@ ghost use denote.Ref.{now};
 ghost use Rattle.calls.specs.Calls.{HitAnswered, WatchedAnswered, BracketAnswered, FrequentAnswered, TopAnswered};
 ghost use Rattle.calls.specs.History.{Keeps, ListKeeps, hitCall, watchedCall, bracketCall, frequentCall, topCall, state};
 ghost use Rattle.calls.specs.Reading.{Reading};
-use calls::answers::{FrequentList, Line, TopList};
+use calls::answers::FrequentList;
+use calls::answers::Line;
+use calls::answers::TopList;
 use calls::refusal::Refusal;
 use finders::finder::Finder;
 use items::kind::Kind;
@@ -36,7 +38,12 @@ pub trait Summary<T: Kind> {
         ensures keeps { λ r. ⌜ Keeps (T·Kind .same) (F·Finder .bindings) (F·Finder .room) (F·Finder .lawful) reading structured (state (now (self .entry)) (now (finder .entry))) (hitCall item r) (state (now (self .exit)) (now (finder .exit))) ⌝ };
 
     /// Counts a hit of the item, and tells which item entered and which left the first k positions.
-    fn watched_hit<F: Finder<T>>(&mut self, finder: &mut F, k: usize, item: T) -> Result<(Option<T>, Option<T>), Refusal>
+    fn watched_hit<F: Finder<T>>(
+        &mut self,
+        finder: &mut F,
+        k: usize,
+        item: T,
+    ) -> Result<(Option<T>, Option<T>), Refusal>
         ensures answered { λ r. ⌜ WatchedAnswered (T·Kind .same) (F·Finder .bindings) (F·Finder .room) (F·Finder .lawful) reading (now (self .entry)) (now (finder .entry)) k item r (now (self .exit)) (now (finder .exit)) ⌝ }
         ensures keeps { λ r. ⌜ Keeps (T·Kind .same) (F·Finder .bindings) (F·Finder .room) (F·Finder .lawful) reading structured (state (now (self .entry)) (now (finder .entry))) (watchedCall k item r) (state (now (self .exit)) (now (finder .exit))) ⌝ };
 

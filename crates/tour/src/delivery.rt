@@ -45,7 +45,11 @@ impl From<Refusal> for Trouble as TroubleFromRefusal {
     }
 }
 
-pub fn check_in<F: Finder<Article>>(finder: &mut F, code: &[u8], place: usize) -> Result<Article, Trouble>
+pub fn check_in<F: Finder<Article>>(
+    finder: &mut F,
+    code: &[u8],
+    place: usize,
+) -> Result<Article, Trouble>
     ensures answer { λ r. ⌜ (F·Finder .lawful (now (finder .entry)) → r ≡ checkedIn (F·Finder .bindings (now (finder .entry))) (F·Finder .room (now (finder .entry))) (madeFrom (now (code .entry)))) ⌝ }
     ensures refused { λ r. ⌜ refused r (λ _. now (finder .exit) ≡ now (finder .entry)) ⌝ }
     ensures entered { λ r. ⌜ (F·Finder .lawful (now (finder .entry)) → made r (λ article. Entered sameArticle (F·Finder .bindings (now (finder .entry))) article place (F·Finder .bindings (now (finder .exit))))) ⌝ }

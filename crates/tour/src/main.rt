@@ -3,11 +3,12 @@
 mod delivery;
 mod morning;
 mod words;
+
 use calls::answers::Line;
+use delivery::Trouble;
 use delivery::check_in;
 use delivery::look_up;
 use delivery::take_out;
-use delivery::Trouble;
 use finders::finder::Binding;
 use finders::finder::Finder;
 use finders::refusal::check_slots;
@@ -42,10 +43,19 @@ const DELIVERY: [&str; 9] = [
     "80614141123458",
 ];
 
-fn tell_check_in<F: Finder<Article>>(rt: &LibcRuntime, finder: &mut F, code: &str, place: usize) -> io::Result<bool> {
+fn tell_check_in<F: Finder<Article>>(
+    rt: &LibcRuntime,
+    finder: &mut F,
+    code: &str,
+    place: usize,
+) -> io::Result<bool> {
     match check_in(finder, code.as_bytes(), place) {
         Ok(article) => {
-            println!(rt, "  {code:<14}  an article of {} digits, entered at place {place}", article.width())?;
+            println!(
+                rt,
+                "  {code:<14}  an article of {} digits, entered at place {place}",
+                article.width()
+            )?;
             Ok(true)
         }
         Err(trouble) => {
@@ -63,7 +73,11 @@ fn tell_look_up<F: Finder<Article>>(rt: &LibcRuntime, finder: &F, code: &str) ->
     }
 }
 
-fn tell_take_out<F: Finder<Article>>(rt: &LibcRuntime, finder: &mut F, code: &str) -> io::Result<()> {
+fn tell_take_out<F: Finder<Article>>(
+    rt: &LibcRuntime,
+    finder: &mut F,
+    code: &str,
+) -> io::Result<()> {
     match take_out(finder, code.as_bytes()) {
         Ok(()) => println!(rt, "  {code:<14}  leaves"),
         Err(trouble) => println!(rt, "  {code:<14}  {trouble}"),
@@ -91,14 +105,24 @@ fn compare(rt: &LibcRuntime, filler: Article) -> io::Result<()> {
     let hashed = answers(&mut HashedFinder::over(&mut slots));
     println!(rt, "")?;
     if straight == hashed {
-        println!(rt, "Through a hashed finder, every code of the delivery gets the same answer.")
+        println!(
+            rt,
+            "Through a hashed finder, every code of the delivery gets the same answer."
+        )
     } else {
-        println!(rt, "Through a hashed finder, some code of the delivery gets another answer.")
+        println!(
+            rt,
+            "Through a hashed finder, some code of the delivery gets another answer."
+        )
     }
 }
 
 fn receive<F: Finder<Article>>(rt: &LibcRuntime, finder: &mut F) -> io::Result<()> {
-    println!(rt, "A delivery of article codes is checked in. The finder has room for {}.", finder.capacity())?;
+    println!(
+        rt,
+        "A delivery of article codes is checked in. The finder has room for {}.",
+        finder.capacity()
+    )?;
     let mut place = 0usize;
     for code in DELIVERY {
         if tell_check_in(rt, finder, code, place)? {
@@ -116,7 +140,12 @@ fn receive<F: Finder<Article>>(rt: &LibcRuntime, finder: &mut F) -> io::Result<(
     tell_take_out(rt, finder, "96385074")?;
     tell_check_in(rt, finder, "80614141123458", place)?;
     println!(rt, "")?;
-    println!(rt, "Held at the end: {} of the {} that fit.", finder.held(), finder.capacity())
+    println!(
+        rt,
+        "Held at the end: {} of the {} that fit.",
+        finder.held(),
+        finder.capacity()
+    )
 }
 
 fn count(rt: &LibcRuntime) -> io::Result<()> {

@@ -9,21 +9,51 @@ use items::label::LabelKind;
 use std::io;
 use summary::summary::Summary;
 
-const MORNING: [u32; 15] = [118, 204, 118, 305, 118, 204, 412, 204, 118, 77, 305, 118, 204, 560, 118];
+const MORNING: [u32; 15] = [
+    118,
+    204,
+    118,
+    305,
+    118,
+    204,
+    412,
+    204,
+    118,
+    77,
+    305,
+    118,
+    204,
+    560,
+    118,
+];
 
 // How many positions are watched, and asked for at the end.
 const TOP: usize = 2;
 
-fn tell_redraw<S: Summary<Label>, F: Finder<Label>>(rt: &LibcRuntime, summary: &mut S, finder: &mut F, number: u32) -> io::Result<()> {
+fn tell_redraw<S: Summary<Label>, F: Finder<Label>>(
+    rt: &LibcRuntime,
+    summary: &mut S,
+    finder: &mut F,
+    number: u32,
+) -> io::Result<()> {
     match summary.watched_hit(finder, TOP, Label { number }) {
-        Ok((Some(_), Some(left))) => println!(rt, "  label {number:<3}  enters the top {TOP}, and label {} leaves it", left.number),
+        Ok((Some(_), Some(left))) => println!(
+            rt,
+            "  label {number:<3}  enters the top {TOP}, and label {} leaves it",
+            left.number
+        ),
         Ok((Some(_), None)) => println!(rt, "  label {number:<3}  enters the top {TOP}"),
         Ok((None, _)) => println!(rt, "  label {number}"),
         Err(refusal) => println!(rt, "  label {number:<3}  refused with {}", refusal.number()),
     }
 }
 
-fn tell_bracket<S: Summary<Label>, F: Finder<Label>>(rt: &LibcRuntime, summary: &S, finder: &F, number: u32) -> io::Result<()> {
+fn tell_bracket<S: Summary<Label>, F: Finder<Label>>(
+    rt: &LibcRuntime,
+    summary: &S,
+    finder: &F,
+    number: u32,
+) -> io::Result<()> {
     match summary.bracket(finder, &Label { number }) {
         Ok((lower, upper)) => println!(rt, "  label {number:<3}  {lower} to {upper} times"),
         Err(refusal) => println!(rt, "  label {number:<3}  refused with {}", refusal.number()),
@@ -33,18 +63,39 @@ fn tell_bracket<S: Summary<Label>, F: Finder<Label>>(rt: &LibcRuntime, summary: 
 fn tell_line(rt: &LibcRuntime, line: Line<Label>) -> io::Result<()> {
     let number = line.item.number;
     let sure = if line.sure { ", sure" } else { "" };
-    println!(rt, "  label {number:<3}  counted {} times, up to {} of them in error{sure}", line.count, line.error)
+    println!(
+        rt,
+        "  label {number:<3}  counted {} times, up to {} of them in error{sure}",
+        line.count, line.error
+    )
 }
 
-fn tell_frequent<S: Summary<Label>>(rt: &LibcRuntime, summary: &S, lines: &mut [Line<Label>]) -> io::Result<()> {
+fn tell_frequent<S: Summary<Label>>(
+    rt: &LibcRuntime,
+    summary: &S,
+    lines: &mut [Line<Label>],
+) -> io::Result<()> {
     match summary.frequent(1, 5, lines) {
-        Ok(FrequentList { lines: count, threshold, complete }) => {
-            println!(rt, "Busy: at least a fifth of the {} redraws, which is {threshold}.", summary.total())?;
+        Ok(
+            FrequentList {
+                lines: count,
+                threshold,
+                complete,
+            },
+        ) => {
+            println!(
+                rt,
+                "Busy: at least a fifth of the {} redraws, which is {threshold}.",
+                summary.total()
+            )?;
             for line in lines.iter().take(count) {
                 tell_line(rt, *line)?;
             }
             if complete {
-                println!(rt, "  The list is complete: no other label was redrawn {threshold} times or more.")?;
+                println!(
+                    rt,
+                    "  The list is complete: no other label was redrawn {threshold} times or more."
+                )?;
             }
             Ok(())
         }
@@ -52,18 +103,34 @@ fn tell_frequent<S: Summary<Label>>(rt: &LibcRuntime, summary: &S, lines: &mut [
     }
 }
 
-fn tell_top<S: Summary<Label>>(rt: &LibcRuntime, summary: &S, lines: &mut [Line<Label>]) -> io::Result<()> {
+fn tell_top<S: Summary<Label>>(
+    rt: &LibcRuntime,
+    summary: &S,
+    lines: &mut [Line<Label>],
+) -> io::Result<()> {
     match summary.top(TOP, lines) {
-        Ok(TopList { lines: count, guaranteed, ordered }) => {
+        Ok(
+            TopList {
+                lines: count,
+                guaranteed,
+                ordered,
+            },
+        ) => {
             println!(rt, "The top {TOP}:")?;
             for line in lines.iter().take(count) {
                 tell_line(rt, *line)?;
             }
             if guaranteed {
-                println!(rt, "  Guaranteed: no other label was redrawn more often than any of these.")?;
+                println!(
+                    rt,
+                    "  Guaranteed: no other label was redrawn more often than any of these."
+                )?;
             }
             if ordered {
-                println!(rt, "  Ordered: each was redrawn at least as often as the next.")?;
+                println!(
+                    rt,
+                    "  Ordered: each was redrawn at least as often as the next."
+                )?;
             }
             Ok(())
         }
@@ -71,9 +138,18 @@ fn tell_top<S: Summary<Label>>(rt: &LibcRuntime, summary: &S, lines: &mut [Line<
     }
 }
 
-pub fn count_morning<S: Summary<Label>, F: Finder<Label>>(rt: &LibcRuntime, summary: &mut S, finder: &mut F, lines: &mut [Line<Label>]) -> io::Result<()> {
+pub fn count_morning<S: Summary<Label>, F: Finder<Label>>(
+    rt: &LibcRuntime,
+    summary: &mut S,
+    finder: &mut F,
+    lines: &mut [Line<Label>],
+) -> io::Result<()> {
     println!(rt, "")?;
-    println!(rt, "A morning of redraws is counted, with {} counters for all labels.", summary.size())?;
+    println!(
+        rt,
+        "A morning of redraws is counted, with {} counters for all labels.",
+        summary.size()
+    )?;
     for number in MORNING {
         tell_redraw(rt, summary, finder, number)?;
     }

@@ -24,8 +24,18 @@ fn of_refusal(refusal: Refusal) -> &'static str {
 pub impl fmt::Display for Trouble as TroubleDisplay {
     fn fmt<W: fmt::Write>(&self, f: &mut fmt::Formatter<W>) -> fmt::Result {
         match *self {
-            Trouble::Spoiled(fault) => write!(f, "refused with {}: {}", self.number(), of_fault(fault)),
-            Trouble::Refused(refusal) => write!(f, "refused with {}: {}", self.number(), of_refusal(refusal)),
+            Trouble::Spoiled(fault) => write!(
+                f,
+                "refused with {}: {}",
+                self.number(),
+                of_fault(fault)
+            ),
+            Trouble::Refused(refusal) => write!(
+                f,
+                "refused with {}: {}",
+                self.number(),
+                of_refusal(refusal)
+            ),
         }
     }
 }

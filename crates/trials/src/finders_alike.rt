@@ -45,9 +45,15 @@ fn trial<F: Finder<Label>>(finder: &mut F) -> Result<(), Fail> {
     check_eq(entered(finder, 5, 3), 0)?;
     check_eq(entered(finder, 5, 9), 12).note("held comes before full")?;
     check_eq(entered(finder, 6, 9), 13)?;
-    check_eq((found(finder, 4), found(finder, 8), found(finder, 65539)), (Some(0), Some(1), Some(2)))?;
+    check_eq(
+        (found(finder, 4), found(finder, 8), found(finder, 65539)),
+        (Some(0), Some(1), Some(2)),
+    )?;
     check_eq((left(finder, 8), left(finder, 8)), (0, 14))?;
-    check_eq((found(finder, 4), found(finder, 8), found(finder, 65539)), (Some(0), None, Some(2)))?;
+    check_eq(
+        (found(finder, 4), found(finder, 8), found(finder, 65539)),
+        (Some(0), None, Some(2)),
+    )?;
     check_eq(entered(finder, 6, 7), 0).note("the freed slot is used again")?;
     check_eq((found(finder, 6), finder.held()), (Some(7), 4))
 }

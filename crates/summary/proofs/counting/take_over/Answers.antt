@@ -1,4 +1,4 @@
-use mathlib.Core.Path.{sym, _∙_}
+use mathlib.Core.Path.{sym}
 use Rattle.summary.proofs.Accepting.{taken-over}
 use Rattle.summary.proofs.counting.take_over.Needs as need
 

@@ -37,7 +37,7 @@ returns-in-Break-place g c =
     let ranked : Ranked (size s) (c .args .k) = subst (λ (m : ℕ). Ranked m (c .args .k)) (c .size .ensures) (was-ranked (c .size .result) (c .args .k) (c .in-Continue-check-rank .ensures tt)) in
     let a = watched same (c .args .k) (entries (placed s)) (entries (placed s)) in
     let answered = ranked-ends same (g .T·Kind·met .equivalence) (g .F·Finder .bindings) (g .F·Finder .room) (g .F·Finder .lawful) s (c .args .finder .now) (c .args .item) (c .args .k) a (c .from-residual-in-Break-place .result) s (c .args .finder .now) ranked
-        (hit-refused same (g .F·Finder .bindings) (g .F·Finder .room) (g .F·Finder .lawful) s (c .args .finder .now) (c .args .item) a (c .admit .result) (c .admit .ensures) _ (c .from-residual-in-Break-place .result) (c .in-Break-place .was tt) (why .1 ∙ ap Err (why .2))) in
+    (hit-refused same (g .F·Finder .bindings) (g .F·Finder .room) (g .F·Finder .lawful) s (c .args .finder .now) (c .args .item) a (c .admit .result) (c .admit .ensures) _ (c .from-residual-in-Break-place .result) (c .in-Break-place .was tt) (why .1 ∙ ap Err (why .2))) in
     record {
       answered = answered;
       keeps = keeps-watched same (g .T·Kind·met .equivalence) (g .F·Finder .bindings) (g .F·Finder .room) (g .F·Finder .lawful) reading Structured reliable _ _ _ _ _ _ _ answered;
@@ -57,10 +57,10 @@ returns g c =
     let ranked : Ranked (size s) k = subst (λ (m : ℕ). Ranked m k) (c .size .ensures) (was-ranked (c .size .result) k (c .in-Continue-check-rank .ensures tt)) in
     let a = watched same k (entries (placed s)) (entries (placed s′)) in
     let tells : c .changes .result ≡ told same k x (formOf (entryAt (placed s) place) x) (entries (placed s)) (entries (placed s′)) =
-        told-by same (c .changes .result) k x (c .form-of-form .result) _ (entries (placed s)) (entries (placed s′)) (c .survey-before .result .leads) (c .survey-before .result .last) (c .changes .ensures) (c .survey-before .ensures .leads) (c .survey-before .ensures .last) (c .form-of-form .ensures ∙ ap (λ o. formOf o x) (c .entry-at .ensures)) in
+    told-by same (c .changes .result) k x (c .form-of-form .result) _ (entries (placed s)) (entries (placed s′)) (c .survey-before .result .leads) (c .survey-before .result .last) (c .changes .ensures) (c .survey-before .ensures .leads) (c .survey-before .ensures .last) (c .form-of-form .ensures ∙ ap (λ o. formOf o x) (c .entry-at .ensures)) in
     let answered = ranked-ends same laws (g .F·Finder .bindings) (g .F·Finder .room) (g .F·Finder .lawful) s f x k a _ s′ f′ ranked
-        (hit-accepted same (g .F·Finder .bindings) (g .F·Finder .room) (g .F·Finder .lawful) s f x a (c .admit .result) (c .admit .ensures) place (c .changes .result) s′ f′ (c .in-Continue-place .was tt) (c .count .ensures)
-        (λ found own did. tells ∙ told-hit same laws (g .F·Finder .bindings) (g .F·Finder .room) (g .F·Finder .lawful) s f x k place s′ f′ ranked found own did)) in
+    (hit-accepted same (g .F·Finder .bindings) (g .F·Finder .room) (g .F·Finder .lawful) s f x a (c .admit .result) (c .admit .ensures) place (c .changes .result) s′ f′ (c .in-Continue-place .was tt) (c .count .ensures)
+    (λ found own did. tells ∙ told-hit same laws (g .F·Finder .bindings) (g .F·Finder .room) (g .F·Finder .lawful) s f x k place s′ f′ ranked found own did)) in
     record {
       answered = answered;
       keeps = keeps-watched same laws (g .F·Finder .bindings) (g .F·Finder .room) (g .F·Finder .lawful) reading Structured reliable _ _ _ _ _ _ _ answered;
