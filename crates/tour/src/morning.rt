@@ -138,7 +138,7 @@ fn tell_top<S: Summary<Label>>(
     }
 }
 
-pub fn count_morning<S: Summary<Label>, F: Finder<Label>>(
+pub(crate) fn count_morning<S: Summary<Label>, F: Finder<Label>>(
     rt: &LibcRuntime,
     summary: &mut S,
     finder: &mut F,
