@@ -1,6 +1,7 @@
 #!/bin/sh
 # The token of a detached counter must be spent once. Each edit here misuses it so that the compiler refuses the code with
-# the error named, before anything is proved; the twin, which stands in the same place, is lawful and must be proved.
+# the error named, before anything is proved. The twin stands in the same place and is lawful: the compiler takes it, and
+# where the edit says so it is proved as well.
 # `rt must-fail` takes only edits that reach the prover, so these have a script of their own.
 here=$(cd "$(dirname "$0")" && pwd) bad=0
 
@@ -25,15 +26,17 @@ edited() {
 
 for edit in "$here"/*.edit; do
     want=$(field "$edit" error)
+    lawful=$(field "$edit" twin-is)
     for kind in new twin; do
         dir=$(mktemp -d)
         edited "$edit" "$kind" "$dir" || { bad=1; rm -rf "$dir"; continue; }
         if (cd "$dir" && rt dev counters) >"$dir/log" 2>&1; then ended=proved
         elif grep -q "error\[$want\]" "$dir/log"; then ended=refused
-        else ended=other; fi
+        elif grep -q "error\[" "$dir/log"; then ended=other
+        else ended=taken; fi
         case $kind-$ended in
             new-refused) echo "refused ${edit##*/}: $want" ;;
-            twin-proved) echo "proved the twin of ${edit##*/}" ;;
+            twin-$lawful) echo "the twin of ${edit##*/} is $lawful" ;;
             *) echo "UNEXPECTED ${edit##*/}, $kind: $ended"; grep -m3 error "$dir/log"; bad=1 ;;
         esac
         rm -rf "$dir"
