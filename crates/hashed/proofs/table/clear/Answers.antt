@@ -1,3 +1,4 @@
+-- The slots before the index are free and linked, one to the one before it.
 use mathlib.Core.Path.{_≡_, refl, sym, ap, subst, _∙_}
 use Prim.Native.Nat.{ℕ, _<_}
 use native.Mathlib.Numerals.{add-one}

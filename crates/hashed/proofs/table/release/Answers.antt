@@ -1,3 +1,4 @@
+-- One slot taken out of its chain, field by field.
 use mathlib.Core.Path.{ap, _∙_}
 use mathlib.Core.List.{List}
 use Prim.Native.Nat.{ℕ}

@@ -1,3 +1,4 @@
+-- One slot made free and its chain emptied, field by field.
 use mathlib.Core.Path.{ap, _∙_}
 use mathlib.Core.List.{List}
 use Prim.Native.Nat.{ℕ}

@@ -1,3 +1,4 @@
+-- The walk along a chain: what it has passed is not the item, and what is left of the chain gets shorter.
 use mathlib.Core.Path.{sym, subst}
 use Prim.Native.Nat.{ℕ}
 use native.Mathlib.Nat.{mod-lt}

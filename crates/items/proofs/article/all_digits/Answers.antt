@@ -1,3 +1,4 @@
+-- What is left decides whether all bytes are digits.
 use mathlib.Core.Path.{sym, ap, _∙_}
 use mathlib.Core.Bool.{_&&_}
 use lib.ListN.{drop}

@@ -1,3 +1,4 @@
+-- Each digit more turns the weights, so that the two sums change places.
 use mathlib.Core.Path.{ap, _∙_}
 use mathlib.Core.List.{reverse}
 use native.Mathlib.Omega.{arith}

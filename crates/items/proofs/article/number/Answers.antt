@@ -1,3 +1,4 @@
+-- Each digit more makes the number ten times as large, and stays within 64 bits.
 use mathlib.Core.Path.{ap, _∙_}
 use native.Mathlib.Omega.{arith}
 use Rattle.items.specs.Gtins.{numberOf}

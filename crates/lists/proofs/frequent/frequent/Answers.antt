@@ -1,3 +1,4 @@
+-- The list is refused, or written as it is defined.
 use mathlib.Core.Path.{_≡_, sym, ap, _∙_}
 use native.Mathlib.Omega.{arith}
 use Rattle.std.proofs.shelf.Lists.{length-reverse}

@@ -1,3 +1,4 @@
+-- All entries that were passed reach the threshold, and no entry behind the first that does not.
 use mathlib.Core.Path.{sym}
 use native.Mathlib.Omega.{arith}
 use Rattle.rows.specs.Questions.{byPosition, sure}

@@ -1,3 +1,4 @@
+-- The lines before the index are those of the list, and the others are as they were.
 use mathlib.Core.Path.{_≡_, ap, _∙_, subst}
 use Prim.Native.Nat.{ℕ, _≤_, _<_}
 use native.Mathlib.Omega.{arith}

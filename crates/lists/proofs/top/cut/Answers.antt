@@ -1,3 +1,4 @@
+-- The walk has passed no number that is clear, and its running minimum is the least lower figure so far.
 use mathlib.Core.Path.{sym, ap, _∙_}
 use Prim.Native.Nat.{min}
 use native.Mathlib.Omega.{arith}

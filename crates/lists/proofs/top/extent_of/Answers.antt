@@ -1,3 +1,4 @@
+-- The list ends at the cut, or has all entries where there is none.
 use mathlib.Core.Path.{_≡_, sym, ap, _∙_}
 use mathlib.Core.Bool.{false}
 use Prim.Native.Nat.{_≤_}

@@ -1,3 +1,4 @@
+-- Along the walk each lower figure was at least the next count.
 use Rattle.counters.specs.Meaning.{size}
 use Rattle.lists.specs.Row.{rowOf}
 use Rattle.lists.proofs.Places.{met, past}

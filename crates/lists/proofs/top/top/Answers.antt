@@ -1,3 +1,4 @@
+-- The list is refused, or written as it is defined.
 use mathlib.Core.Path.{_≡_, sym, ap, _∙_}
 use mathlib.Core.Bool.{false}
 use Prim.Native.Nat.{ℕ}

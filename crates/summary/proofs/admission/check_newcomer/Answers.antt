@@ -1,3 +1,4 @@
+-- Whether the finder can take a newcomer in is the test for a foreign finder.
 use mathlib.Core.Path.{_≡_, sym, ap, _∙_}
 use native.Mathlib.Omega.{arith}
 use lib.Dec.{ltb}

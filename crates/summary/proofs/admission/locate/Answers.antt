@@ -1,3 +1,4 @@
+-- The place that the finder gives is right, or the finder is foreign.
 use mathlib.Core.Path.{refl, sym}
 use lib.ListN.{length}
 use Rattle.counters.specs.Meaning.{placed}

@@ -1,3 +1,4 @@
+-- The walk over the first positions: whether one of those passed holds the item, and which was passed last.
 use native.Mathlib.Omega.{arith}
 use Rattle.table.specs.Placed.{entries}
 use Rattle.counters.specs.Meaning.{placed}

@@ -1,3 +1,4 @@
+-- The buckets before the index are linked as free.
 use mathlib.Core.Path.{_≡_, refl}
 use mathlib.Core.List.{[], _++_, append-nil}
 use Prim.Native.Nat.{_<_, min}

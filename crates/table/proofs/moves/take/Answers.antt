@@ -1,3 +1,4 @@
+-- A counter out of its bucket, and the bucket back if it is then empty.
 use mathlib.Core.Path.{ap, _∙_}
 use Rattle.table.specs.Fields.{valueIn}
 use Rattle.table.proofs.Quiets.{quiet-pulled}

@@ -1,3 +1,4 @@
+-- The bucket to hang a counter in: the one behind, if its value fits, or a fresh one.
 use mathlib.Core.Path.{refl, sym, _∙_, ap}
 use Rattle.links.proofs.Chains.{some-inj, some-none}
 use Rattle.table.specs.Fields.{valueIn}

@@ -1,3 +1,4 @@
+-- The link back from a counter, or the last counter of the bucket before, is the entry right below.
 use mathlib.Core.Path.{_∙_}
 use mathlib.Core.Logic.{∥∥₁-elim}
 use native.Mathlib.Numerals.{add-one}

@@ -1,3 +1,4 @@
+-- An unused counter is labelled and attached at count 1: the structure stands, and the row has one entry more.
 use mathlib.Core.Path.{refl, sym, ap, _∙_}
 use mathlib.Core.Logic.{∥∥₁-map, ∥∥₁-elim}
 use Prim.Native.Nat.{ℕ}

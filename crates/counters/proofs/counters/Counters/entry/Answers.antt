@@ -1,3 +1,4 @@
+-- What a place holds is the entry of the row at that place.
 use mathlib.Core.Path.{_∙_}
 use mathlib.Core.Logic.{∥∥₁-elim}
 use Rattle.table.proofs.Showing.{entry-is, entry-none, entry-steps}

@@ -1,3 +1,4 @@
+-- With all buckets free and no counter in use the structure stands, and the row is empty.
 use mathlib.Core.Path.{_≡_, refl, _∙_}
 use Prim.Native.Nat.{_≤_, min}
 use native.Mathlib.Omega.{arith}

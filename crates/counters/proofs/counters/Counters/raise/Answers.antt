@@ -1,3 +1,4 @@
+-- A counter is detached and attached one higher: the structure stands, and the row is the one raised.
 use mathlib.Core.Path.{refl, _∙_}
 use mathlib.Core.Logic.{∥∥₁-map, ∥∥₁-elim}
 use native.Mathlib.Omega.{arith}

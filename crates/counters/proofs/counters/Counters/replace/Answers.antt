@@ -1,3 +1,4 @@
+-- The lowest counter is detached, labelled and attached one higher: the structure stands, and the row is the one overtaken.
 use mathlib.Core.Path.{refl, sym, ap, _∙_}
 use mathlib.Core.Logic.{∥∥₁-map, ∥∥₁-elim}
 use Prim.Native.Nat.{_<_}

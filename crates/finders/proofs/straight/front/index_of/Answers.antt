@@ -1,3 +1,4 @@
+-- A search: the first binding of the item, or none of those passed.
 use mathlib.Core.Path.{sym}
 use Rattle.finders.proofs.Searches.{hit, miss, nowhere}
 use Rattle.finders.proofs.straight.front.index_of.Needs as need

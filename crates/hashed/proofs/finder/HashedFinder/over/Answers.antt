@@ -1,3 +1,4 @@
+-- A finder over cleared slots holds nothing, and its structure stands.
 use mathlib.Core.Path.{_≡_, sym, ap, subst, _∙_}
 use Prim.Native.Nat.{ℕ}
 use native.Mathlib.Omega.{arith}

@@ -1,3 +1,4 @@
+-- One step down from a position.
 use mathlib.Core.Path.{sym, _∙_}
 use Rattle.counters.specs.Meaning.{placed}
 use Rattle.lists.proofs.Places.{end-entry, end-place, entry-here, step-here, none-below}

@@ -1,3 +1,4 @@
+-- The entry at the place that the finder gives has the figures of the bracket; from this the step of the promise.
 use mathlib.Core.Path.{ap, _∙_}
 use Rattle.std.specs.declared.result.Result.the-variants.{Err}
 use Rattle.std.proofs.shelf.Results.{err-from-errBy}

@@ -1,3 +1,4 @@
+-- A hit that is admitted is counted: the predicate of the call, and from it the step of the promise.
 use mathlib.Core.Path.{refl, ap, _∙_}
 use Rattle.std.specs.declared.result.Result.the-variants.{Err}
 use Rattle.std.proofs.shelf.Results.{err-from-errBy}

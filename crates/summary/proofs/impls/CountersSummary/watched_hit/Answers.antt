@@ -1,3 +1,4 @@
+-- A watched hit is a hit between two looks at the first positions; what it tells is what entered and what left.
 use mathlib.Core.Path.{_≡_, ap, _∙_, subst}
 use Prim.Native.Nat.{ℕ}
 use Rattle.std.specs.declared.option.Option.the-variants.{None}

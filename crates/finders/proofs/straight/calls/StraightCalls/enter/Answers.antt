@@ -1,3 +1,4 @@
+-- A binding put behind the others: the map has one item more.
 use mathlib.Core.Path.{_≡_, sym, ap, _∙_}
 use Prim.Native.Nat.{_<_}
 use native.Mathlib.Omega.{arith}

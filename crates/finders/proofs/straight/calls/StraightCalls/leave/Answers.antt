@@ -1,3 +1,4 @@
+-- The slot of the item that leaves is filled by the last: what is held fits, and the map is without the item.
 use mathlib.Core.Path.{_≡_, sym, ap, _∙_}
 use Prim.Native.Nat.{_<_, _≤_}
 use native.Mathlib.Omega.{arith}

@@ -1,3 +1,4 @@
+-- The first free slot joins the chain of the item's mark: the structure still stands, and the map has one item more.
 use mathlib.Core.Path.{_≡_, refl, sym, ap, subst, _∙_}
 use mathlib.Core.Bool.{true}
 use mathlib.Core.List.{List}

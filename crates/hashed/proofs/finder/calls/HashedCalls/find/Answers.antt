@@ -1,3 +1,4 @@
+-- The walk ends at the slot that the look-up finds, or the look-up finds none.
 use mathlib.Core.Path.{sym, ap, _∙_}
 use Prim.Native.Nat.{ℕ}
 use Rattle.std.specs.declared.option.Option.the-variants.{Some}

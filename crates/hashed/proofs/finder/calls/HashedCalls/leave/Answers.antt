@@ -1,3 +1,4 @@
+-- The slot that is found leaves its chain for the free ones: the structure still stands, and the map is without its item.
 use mathlib.Core.Path.{_≡_, refl, sym, ap, subst}
 use mathlib.Core.List.{List}
 use mathlib.Core.Logic.{∥∥₁-map}
