@@ -67,14 +67,14 @@ module _ {S T F : Type 0} (same : T → T → Bool) (laws : Equivalence same) (b
 
       -- An accepted hit leaves a sound state.
       module _ (s' : S) (f' : F) (did : Accepted same bindings room lawful reading s f x s' f') where
-        row_after : row_of reading s' ≡ row_after same m (hits ++ x ∷ [])
-        row_after = ap entries did.placed ∙ row_hit
+        row_now : row_of reading s' ≡ row_after same m (hits ++ x ∷ [])
+        row_now = ap entries did.placed ∙ row_hit
 
         placed_after : reading.placed s' ≡ step (reading.size s) (reading.placed s) x (place_in same (reading.placed s) x)
         placed_after = did.placed ∙ ap (step (reading.size s) (reading.placed s) x) (sound.finds x)
 
         in_order_after : SoundRow same m (length (hits ++ x ∷ [])) (row_of reading s')
-        in_order_after = subst (SoundRow same m (length (hits ++ x ∷ []))) (sym row_after) (rows (hits ++ x ∷ [])).sound
+        in_order_after = subst (SoundRow same m (length (hits ++ x ∷ []))) (sym row_now) (rows (hits ++ x ∷ [])).sound
 
         total_after : reading.total s' ≡ length (hits ++ x ∷ [])
         total_after = omega (arith, did.total, sound.table.total, length-append hits (x ∷ []))
@@ -102,8 +102,8 @@ module _ {S T F : Type 0} (same : T → T → Bool) (laws : Equivalence same) (b
           table = record {
             sized = sound.table.sized;
             size = did.size ∙ sound.table.size;
-            row = row_after;
-            used = reliable.used s' ∙ sym (length-map (reading.placed s') (λ e. e.entry)) ∙ ap length row_after;
+            row = row_now;
+            used = reliable.used s' ∙ sym (length-map (reading.placed s') (λ e. e.entry)) ∙ ap length row_now;
             total = total_after;
             countable = omega (arith, length-append hits (x ∷ []));
             adds_up = in_order_after.adds_up ∙ sym total_after;
@@ -170,7 +170,7 @@ module _ {S T F : Type 0} (same : T → T → Bool) (laws : Equivalence same) (b
         -- ---- watched hits
 
         watched_is : (k : ℕ) → Accepted same bindings room lawful reading s f x s' f' → watched same k (row_of reading s) (row_of reading s') ≡ watched same k (row_after same m hits) (row_after same m (hits ++ x ∷ []))
-        watched_is k did = ap (λ row. watched same k row (row_of reading s')) sound.table.row ∙ ap (watched same k (row_after same m hits)) (row_after s' f' did)
+        watched_is k did = ap (λ row. watched same k row (row_of reading s')) sound.table.row ∙ ap (watched same k (row_after same m hits)) (row_now s' f' did)
 
         true_watching : (k : ℕ) → TrueWatching same m hits k x (watched same k (row_after same m hits) (row_after same m (hits ++ x ∷ [])))
         true_watching k =

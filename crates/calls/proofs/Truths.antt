@@ -68,7 +68,7 @@ module _ {T : Type 0} (same : T → T → Bool) (m : ℕ) (hits : List T) (rows 
       record {
         number = refl;
         share = rows.thresholds p q some;
-        by_position = entries_marked (sure t) es ∙ k.by_position ∙ ap (λ n. take n (by_position row)) number;
+        first_positions = entries_marked (sure t) es ∙ k.first_positions ∙ ap (λ n. take n (by_position row)) number;
         reaching = All-map (λ l. t ≤ l.count) (marked (sure t)) es k.reaching;
         no_more = subst (λ n. All (λ e. e.count < t) (drop n (by_position row))) number k.no_more;
         sure_exactly = All-map _ (marked (sure t)) es (all_from_each _ k.sure_exactly es);
@@ -87,7 +87,7 @@ module _ {T : Type 0} (same : T → T → Bool) (m : ℕ) (hits : List T) (rows 
       let number : length es ≡ length (top_lines k m row) = sym (length-map es (marked unmarked)) in
       record {
         number = refl;
-        by_position = entries_marked unmarked es ∙ l.by_position ∙ ap (λ n. take n (by_position row)) number;
+        first_positions = entries_marked unmarked es ∙ l.first_positions ∙ ap (λ n. take n (by_position row)) number;
         never_sure = All-map (λ n. n.sure ≡ false) (marked unmarked) es (all_from_each _ (λ e. refl) es);
         guaranteed_means = λ g. subst (SmallestFrom (min k (length row)) (length row) (ClearOfRest m row)) number (l.guaranteed_means g);
         guaranteed_given = l.guaranteed_given;

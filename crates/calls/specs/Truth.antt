@@ -48,7 +48,7 @@ module _ {T : Type 0} (same : T → T → Bool) (m : ℕ) (hits : List T) where
     pub number : length list ≡ a.lines
     pub share : LeastThreshold p q (length hits) a.threshold
     -- The lines are the first positions, as many as have a count of at least the threshold.
-    pub by_position : entries_of list ≡ take a.lines (by_position (row_after same m hits))
+    pub first_positions : entries_of list ≡ take a.lines (by_position (row_after same m hits))
     pub reaching : All (λ l. a.threshold ≤ l.count) list
     pub no_more : All (λ e. e.count < a.threshold) (drop a.lines (by_position (row_after same m hits)))
     -- A line is sure exactly if its lower figure is at least the threshold; its item then has at least so many hits.
@@ -62,7 +62,7 @@ module _ {T : Type 0} (same : T → T → Bool) (m : ℕ) (hits : List T) where
   -- The top list of k, by its lines.
   pub record TrueTopLines (k : ℕ) (a : TopList) (list : List (Line T)) : Type 0 where
     pub number : length list ≡ a.lines
-    pub by_position : entries_of list ≡ take a.lines (by_position (row_after same m hits))
+    pub first_positions : entries_of list ≡ take a.lines (by_position (row_after same m hits))
     pub never_sure : All (λ l. l.sure ≡ false) list
     -- The list is guaranteed exactly if some number from min(k, u) to u is clear of the rest, of a row of u entries.
     -- It then has as many lines as the smallest such number; otherwise it has u.

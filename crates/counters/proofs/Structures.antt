@@ -34,11 +34,11 @@ module _ {T : Type 0} (s : Counters T) where
       record {
         rising = ∥∥₁_elim s.sound (rises_prop _ _) (λ st. (of st).rising);
         filled = ∥∥₁_elim s.sound (all_prop _ (λ b. le_prop) _) (λ st. (of st).filled);
-        bucket_links = ∥∥₁_elim s.sound (chain_prop _ _ _ _ _) (λ st. (of st).bucket_links);
+        buckets_chained = ∥∥₁_elim s.sound (chain_prop _ _ _ _ _) (λ st. (of st).buckets_chained);
         bucket_end = ∥∥₁_elim s.sound (links_set _ _) (λ st. (of st).bucket_end);
         free_links = ∥∥₁_elim s.sound (chain_prop _ _ _ _ _) (λ st. (of st).free_links);
         free_end = ∥∥₁_elim s.sound (links_set _ _) (λ st. (of st).free_end);
-        counter_links = ∥∥₁_elim s.sound (all_prop _ (λ b. chain_prop _ _ _ _ _) _) (λ st. (of st).counter_links);
+        counters_chained = ∥∥₁_elim s.sound (all_prop _ (λ b. chain_prop _ _ _ _ _) _) (λ st. (of st).counters_chained);
         counter_ends = ∥∥₁_elim s.sound (all_prop _ (λ b. links_set _ _) _) (λ st. (of st).counter_ends);
         owned = ∥∥₁_elim s.sound (all_prop _ (λ b. all_prop _ (λ c. numbers_set _ _) _) _) (λ st. (of st).owned);
         hung = λ c. ∥∥₁_elim s.sound (numbers_set _ _) (λ st. (of st).hung c);

@@ -74,7 +74,7 @@ pub true_frequent_list : {Item : Type 0} {same : Item → Item → Bool} {m : �
 true_frequent_list {m} {row} k t =
     let first = reaching_first t (by_position row) (positions_fall row k.sorted) in
     record {
-      by_position = first.0;
+      first_positions = first.0;
       reaching = All-weaker _ _ (λ e l. leb-true t e.count l) (frequent t row) (kept_by_passes (λ e. leb t e.count) (by_position row));
       no_more = first.1;
       sure_exactly = λ e. record { means = leb-true t (lower e); given = le-leb t (lower e) };

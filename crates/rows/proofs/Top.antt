@@ -161,7 +161,7 @@ pub true_top_list : {Item : Type 0} {same : Item → Item → Bool} {m : ℕ} {h
     Invariant same m (hits_of same hits) (length hits) row → (k : ℕ) →
     TrueTopList same m k hits row (top k m row)
 true_top_list {same} {m} {hits} {row} inv k = record {
-  by_position = take_own_length (or_else (length row) (cut k m row)) (by_position row);
+  first_positions = take_own_length (or_else (length row) (cut k m row)) (by_position row);
   guaranteed_means = ends_smallest m row (min k (length row)) (cut k m row) (cut_searched m row k);
   guaranteed_given = cut_exists m row (min k (length row)) (cut k m row) (cut_searched m row k);
   otherwise_all = all_without_cut m row (cut k m row);

@@ -107,7 +107,7 @@ pub record LeastThreshold (p q n t : ℕ) : Type 0 where
 -- The frequent list of a threshold t.
 pub record TrueFrequentList {Item : Type 0} (same : Item → Item → Bool) (m t : ℕ) (hits : List Item) (row lines : List (Entry Item)) : Type 0 where
   -- The lines are the entries with a count of at least t, by position: the first ones, and none behind them.
-  pub by_position : lines ≡ take (length lines) (by_position row)
+  pub first_positions : lines ≡ take (length lines) (by_position row)
   pub reaching : All (λ e. t ≤ e.count) lines
   pub no_more : All (λ e. e.count < t) (drop (length lines) (by_position row))
   -- A line is sure exactly if its lower figure is at least t; it then has at least t hits.
@@ -124,7 +124,7 @@ pub record TrueFrequentList {Item : Type 0} (same : Item → Item → Bool) (m t
 -- The top list of k, of a row of u entries.
 pub record TrueTopList {Item : Type 0} (same : Item → Item → Bool) (m k : ℕ) (hits : List Item) (row lines : List (Entry Item)) : Type 0 where
   -- The lines are the first positions.
-  pub by_position : lines ≡ take (length lines) (by_position row)
+  pub first_positions : lines ≡ take (length lines) (by_position row)
   -- It is guaranteed exactly if some number from min(k, u) to u is clear of the rest. It then ends at the
   -- smallest, and otherwise lists all.
   pub guaranteed_means : guaranteed k m row ≡ true → SmallestFrom (min k (length row)) (length row) (ClearOfRest m row) (length lines)

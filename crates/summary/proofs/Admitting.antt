@@ -22,9 +22,9 @@ reliable = record { used = λ s. refl; seated = seated; structured = structured 
 
 -- ---- places
 
-one_if : (b : Bool) → b ≡ true → one_if b ≡ 1
-one_if true t = refl
-one_if false t = absurd (both_ways false refl t)
+one_if_true : (b : Bool) → b ≡ true → one_if b ≡ 1
+one_if_true true t = refl
+one_if_true false t = absurd (both_ways false refl t)
 
 below_one : (b : Bool) → 1 ≤ one_if b → b ≡ true
 below_one true l = refl
@@ -37,7 +37,7 @@ module _ {T : Type 0} where
   comes p (f ∷ row) e is = go (eqb p f.place) refl (comes p row e) is
     where
       go : (b : Bool) → eqb p f.place ≡ b → (at_place p row ≡ Some e → 1 ≤ times p (places row)) → cond b (Some f) (at_place p row) ≡ Some e → 1 ≤ one_if (eqb p f.place) + times p (places row)
-      go true t behind is = omega (arith, one_if (eqb p f.place) t)
+      go true t behind is = omega (arith, one_if_true (eqb p f.place) t)
       go false t behind is = omega (arith, behind is)
 
   -- A place whose entry holds a same item is not foreign, and any other is.

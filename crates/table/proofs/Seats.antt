@@ -87,8 +87,8 @@ module _ {T : Type 0} (t : List (Place T)) (s : Lists) (used total : ℕ) (ls : 
 
   -- ---- read without a walk
 
-  pub own_entry : own_entry t p ≡ placed_entry (at_place p (placed_row t s.main.first))
-  own_entry =
+  pub own_entry_placed : own_entry t p ≡ placed_entry (at_place p (placed_row t s.main.first))
+  own_entry_placed =
       let x = stood t p within in
       let e : x.counter.bucket ≡ b = sym (reads owner_of 0 t p within) ∙ owner_is in
       let r : own_entry t p ≡ Some (record { item = x.counter.item; count = value_in t x.counter.bucket; error = x.counter.error }) =

@@ -14,7 +14,7 @@ use Rattle.table.specs.Stands.{Sound, Stands}
 use Rattle.table.proofs.Rising.{seat}
 use Rattle.table.proofs.Positions.{nth_before, nth_off, before_off}
 use Rattle.table.proofs.Looking.{crowd, places_are, places_apart, row_length, lowest_is, highest_is, unused_crowd, unused_entry}
-use Rattle.table.proofs.Seats.{own_entry, own_lower}
+use Rattle.table.proofs.Seats.{own_entry_placed, own_lower}
 
 -- An entry's place leads to the entry, where no place comes twice.
 entry_found : {T : Type 0} (row : List (Placed T)) (i p : ℕ) → Apart (places row) → place_at row i ≡ Some p → placed_entry (at_place p row) ≡ nth_entry row i
@@ -46,7 +46,7 @@ module _ {T : Type 0} (t : List (Place T)) (s : Lists) (used total : ℕ) (st : 
   entry_is p lt =
       let at = seat p st.gs (st.sound.seats p lt) in
       let h : Sound t s used total (at.ls ++ group at.b (at.xs ++ p ∷ at.zs) ∷ at.rs) st.fs = rw (← at.is) st.sound in
-      own_entry t s used total at.ls at.b at.xs p at.zs at.rs st.fs h
+      own_entry_placed t s used total at.ls at.b at.xs p at.zs at.rs st.fs h
 
   pub entry_none : (p : ℕ) → used ≤ p → None ≡ placed_entry (at_place p (placed_row t s.main.first))
   entry_none p le = ap placed_entry (sym (unused_entry t s used total st.gs st.fs st.sound p le))

@@ -62,11 +62,11 @@ module _ {T : Type 0} (t : List (Place T)) where
         record {
           rising = rw b (rises_ats gs h.rising);
           filled = rw b (each_bucket (λ i cs. 1 ≤ length cs) gs hs few h.filled);
-          bucket_links = rw b ends;
+          buckets_chained = rw b ends;
           bucket_end = rw b h.full.buckets.stops;
           free_links = rw f h.full.unused.list.chain;
           free_end = rw f h.full.unused.stops;
-          counter_links =
+          counters_chained =
               rw b (each_bucket (λ i cs. Chain (next_in counter_links t) (prev_in counter_links t) None cs None) gs hs few (All-weaker (Holds t) (λ g. Chain (next_in counter_links t) (prev_in counter_links t) None g.members None) (λ g x. x.list.list.chain) gs hs));
           counter_ends = rw b (each_bucket (λ i cs. (members_in t i).last ≡ last_or None cs) gs hs few (All-weaker (Holds t) (λ g. (members_in t g.at).last ≡ last_or None g.members) (λ g x. x.list.stops) gs hs));
           owned = rw b (each_bucket (λ i cs. All (λ x. owner_in t x ≡ i) cs) gs hs few (All-weaker (Holds t) (λ g. All (λ x. owner_in t x ≡ g.at) g.members) (λ g x. x.mine) gs hs));

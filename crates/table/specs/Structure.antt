@@ -25,11 +25,11 @@ pub record Structure {T : Type 0} (t : List (Place T)) (s : Lists) (used total :
   pub rising : Rises (value_in t) (buckets t s.main.first)
   pub filled : All (λ b. 1 ≤ length (counters t b)) (buckets t s.main.first)
   -- Links name back, and ends are kept: of the buckets in use, of the free ones, and of the counters of each bucket in use.
-  pub bucket_links : Chain (next_in bucket_links t) (prev_in bucket_links t) None (buckets t s.main.first) None
+  pub buckets_chained : Chain (next_in bucket_links t) (prev_in bucket_links t) None (buckets t s.main.first) None
   pub bucket_end : s.main.last ≡ last_or None (buckets t s.main.first)
   pub free_links : Chain (next_in bucket_links t) (prev_in bucket_links t) None (buckets t s.free.first) None
   pub free_end : s.free.last ≡ last_or None (buckets t s.free.first)
-  pub counter_links : All (λ b. Chain (next_in counter_links t) (prev_in counter_links t) None (counters t b) None) (buckets t s.main.first)
+  pub counters_chained : All (λ b. Chain (next_in counter_links t) (prev_in counter_links t) None (counters t b) None) (buckets t s.main.first)
   pub counter_ends : All (λ b. (members_in t b).last ≡ last_or None (counters t b)) (buckets t s.main.first)
   -- Every counter names the bucket that it hangs in.
   pub owned : All (λ b. All (λ c. owner_in t c ≡ b) (counters t b)) (buckets t s.main.first)

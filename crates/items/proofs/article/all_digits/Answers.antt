@@ -4,14 +4,14 @@ use Rattle.std.proofs.lemmas.List.{at_drop_more, at_drop_all}
 use Rattle.std.specs.Str.{all_ascii_digits}
 use Rattle.items.proofs.article.all_digits.Goals as goal
 
-pub returns-then-not-is-ascii-digit : goal.returns-then-not-is-ascii-digit
-returns-then-not-is-ascii-digit c =
-    ap (λ t. t && all_ascii_digits (drop (c.loop-b.b-index + 1) c.args.bytes.now)) c.if-not-is-ascii-digit.ensures.value
+pub returns-then-not-is_ascii_digit : goal.returns-then-not-is_ascii_digit
+returns-then-not-is_ascii_digit c =
+    ap (λ t. t && all_ascii_digits (drop (c.loop-b.b-index + 1) c.args.bytes.now)) c.if-not-is_ascii_digit.ensures.value
     ∙ sym (at_drop_more all_ascii_digits c.args.bytes.now c.loop-b.b-index 0 c.loop-b-test.true) ∙ c.loop-b.invariant
 
 pub loop-b-preserved : goal.loop-b-preserved
 loop-b-preserved c =
-    ap (λ t. t && all_ascii_digits (drop (c.loop-b.b-index + 1) c.args.bytes.now)) c.if-not-is-ascii-digit.ensures.value
+    ap (λ t. t && all_ascii_digits (drop (c.loop-b.b-index + 1) c.args.bytes.now)) c.if-not-is_ascii_digit.ensures.value
     ∙ sym (at_drop_more all_ascii_digits c.args.bytes.now c.loop-b.b-index 0 c.loop-b-test.true) ∙ c.loop-b.invariant
 
 pub returns : goal.returns

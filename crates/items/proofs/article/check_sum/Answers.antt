@@ -5,8 +5,8 @@ use Rattle.items.specs.Gtins.{weighted}
 use Rattle.items.proofs.Digits.{digit_at, all_taken, weighted_more, check_sum_weighted}
 use Rattle.items.proofs.article.check_sum.Goals as goal
 
-pub overflow-sub-b : goal.overflow-sub-b
-overflow-sub-b c = (digit_at _ c.requires.digits _ c.loop-b-test.true).0
+pub overflow_sub-b : goal.overflow_sub-b
+overflow_sub-b c = (digit_at _ c.requires.digits _ c.loop-b-test.true).0
 
 pub with-sums-requires : goal.with-sums-requires
 with-sums-requires c = let digit = digit_at _ c.requires.digits _ c.loop-b-test.true in (omega (arith, digit), (omega (arith, digit), omega (arith, digit)))

@@ -6,7 +6,7 @@ pub returns-then-i-places : goal.returns-then-i-places
 returns-then-i-places g c =
     let t = c.args.places.now in
     let i = c.in-Some.i in
-    ap (set t i) c.set-prev.ensures ∙ put_at (g.K.Links.accessors.put_prev c.args.link) t c.args.at i c.index-places-i.result c.in-Some.is
+    ap (set t i) c.set_prev.ensures ∙ put_at (g.K.Links.accessors.put_prev c.args.link) t c.args.at i c.index-places-i.result c.in-Some.is
 
 pub returns-else-i-places : goal.returns-else-i-places
 returns-else-i-places g c =

@@ -16,7 +16,7 @@ returns g c =
     let slots' = c.push.new.self.slots.now in
     let held' = c.push.new.self.held in
     let added : Binding g.row.T.Denot = record { item = c.args.item; place = c.args.place } in
-    let allowed = admitted c.find.result c.held.result c.capacity.result c.in-ok-check-enter.ensures in
+    let allowed = admitted c.find.result c.held.result c.capacity.result c.in_ok-check_enter.ensures in
     let long : length (take held slots) ≡ held = length-take-le held slots c.args.self.now.fits in
     let spare : held < length slots = omega (arith, allowed.1, c.held.ensures.number, c.capacity.ensures) in
     let absent : Apart same (take held slots) → lookup same (take held slots) c.args.item ≡ None = λ apart. sym (c.find.ensures apart) ∙ allowed.0 in

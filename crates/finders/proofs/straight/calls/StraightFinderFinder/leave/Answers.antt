@@ -6,12 +6,12 @@ use Rattle.finders.proofs.Entering.{apart_left, left_front}
 use Rattle.finders.proofs.Refusing.{leaves}
 use Rattle.finders.proofs.straight.calls.StraightFinderFinder.leave.Goals as goal
 
-pub invariant-of-self : goal.invariant-of-self
-invariant-of-self g c =
+pub invariant_of-self : goal.invariant_of-self
+invariant_of-self g c =
     let d : Binding g.row.T.Denot = record { item = c.args.item.now; place = 0 } in
     let wrote = c.remove.ensures.slots d in
     let same_length : length c.remove.new.self.slots.now ≡ length c.args.self.now.front.slots.now = ap length wrote ∙ length-set _ _ _ in
-    (omega arith, tt)
+    record { fits = omega arith }
 
 pub returns-in-Some : goal.returns-in-Some
 returns-in-Some g c =
