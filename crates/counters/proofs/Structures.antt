@@ -29,8 +29,8 @@ module _ {T : Type 0} (s : Counters T) where
   -- Each fact is read off the structure of the table that stands.
   pub structured : Structured s
   structured =
-      let of = λ (st : Stands (now s.table.places) s.table.lists s.used s.total). structure (now s.table.places) s.table.lists s.used s.total st.gs st.fs st.sound in
-      let known : Structure (now s.table.places) s.table.lists s.used s.total =
+      let of = λ (st : Stands s.table.places.now s.table.lists s.used s.total). structure s.table.places.now s.table.lists s.used s.total st.gs st.fs st.sound in
+      let known : Structure s.table.places.now s.table.lists s.used s.total =
       record {
         rising = ∥∥₁_elim s.sound (rises_prop _ _) (λ st. (of st).rising);
         filled = ∥∥₁_elim s.sound (all_prop _ (λ b. le_prop) _) (λ st. (of st).filled);

@@ -10,9 +10,9 @@ returns g c =
     let t = c.args.slots.now in
     let here = c.args.here in
     let before = c.args.before in
-    let next = c.link-of-next.ensures in
+    let next = c.link_of-next.ensures in
     let first = c.redirect.ensures in
-    let second = c.set-link.ensures in
+    let second = c.set_link.ensures in
     λ e.
     let third = c.retire.ensures e in
     record {

@@ -7,8 +7,8 @@ use Rattle.hashed.proofs.table.reset.Goals as goal
 pub returns : goal.returns
 returns g c =
     let i = c.args.i in
-    let first = c.set-link.ensures in
-    let second = c.set-head.ensures in
+    let first = c.set_link.ensures in
+    let second = c.set_head.ensures in
     λ e.
     let third = c.retire.ensures e in
     record {

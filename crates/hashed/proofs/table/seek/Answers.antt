@@ -8,9 +8,9 @@ use Rattle.hashed.proofs.table.seek.Goals as goal
 pub loop-cursor-init : goal.loop-cursor-init
 loop-cursor-init g c =
     let t = c.args.slots.now in
-    let cursor = c.first-of-cursor.result in
+    let cursor = c.first_of-cursor.result in
     let P : ℕ → Type 0 = λ b. Begins (heads t) b cursor.before cursor.at in
-    walk_start g.T.Kind.same t c.args.item.now _ (mod-lt _ (omega (arith, c.chain-for.ensures.below))) _ _ (subst P c.chain-for.ensures.value c.first-of-cursor.ensures)
+    walk_start g.T.Kind.same t c.args.item.now _ (mod-lt _ (omega (arith, c.chain_for.ensures.below))) _ _ (subst P c.chain_for.ensures.value c.first_of-cursor.ensures)
 
 pub holds-requires : goal.holds-requires
 holds-requires g c =
@@ -18,7 +18,7 @@ holds-requires g c =
 
 pub returns-then-holds : goal.returns-then-holds
 returns-then-holds g c =
-    walk_found g.T.Kind.same c.args.slots.now c.args.item.now _ _ _ c.in-Some.here c.in-Some.is c.loop-cursor.invariant c.requires (mod-lt _ (omega (arith, c.chain-for.ensures.below))) (sym c.if-holds.ensures)
+    walk_found g.T.Kind.same c.args.slots.now c.args.item.now _ _ _ c.in-Some.here c.in-Some.is c.loop-cursor.invariant c.requires (mod-lt _ (omega (arith, c.chain_for.ensures.below))) (sym c.if-holds.ensures)
 
 pub behind-cursor-requires : goal.behind-cursor-requires
 behind-cursor-requires g c =
@@ -34,4 +34,4 @@ loop-cursor-preserved g c =
 
 pub returns : goal.returns
 returns g c =
-    walk_end g.T.Kind.same c.args.slots.now c.args.item.now _ _ _ c.in-default.is c.loop-cursor.invariant c.requires
+    walk_end g.T.Kind.same c.args.slots.now c.args.item.now _ _ _ c.in_default.is c.loop-cursor.invariant c.requires

@@ -17,4 +17,4 @@ returns-else-value-count g c =
 
 pub returns-in-None : goal.returns-in-None
 returns-in-None g c =
-    targeted_fresh _ _ _ _ _ _ _ _ c.bucket-after-after.ensures (λ j e q. some_none j (sym e ∙ c.in-None.is)) c.freshen-in-None.ensures
+    targeted_fresh _ _ _ _ _ _ _ _ c.bucket_after-after.ensures (λ j e q. some_none j (sym e ∙ c.in-None.is)) c.freshen-in-None.ensures

@@ -9,8 +9,8 @@ pub returns-then-place-self : goal.returns-then-place-self
 returns-then-place-self g c =
     let s = c.args.self.now in
     record {
-      below = c.place-of.ensures ∙ c.before-then-place-self.ensures ∙ ∥∥₁_elim s.sound (links_set _ _) (λ st. below_is _ _ _ _ st c.args.place c.if-place-self.true);
-      steps = λ i e. ∥∥₁_elim s.sound (links_set _ _) (λ st. c.place-of.ensures ∙ c.before-then-place-self.ensures ∙ below_is _ _ _ _ st c.args.place c.if-place-self.true ∙ below_steps _ _ _ _ st c.args.place i (rw add-one at e));
+      below = c.place_of.ensures ∙ c.before-then-place-self.ensures ∙ ∥∥₁_elim s.sound (links_set _ _) (λ st. below_is _ _ _ _ st c.args.place c.if-place-self.true);
+      steps = λ i e. ∥∥₁_elim s.sound (links_set _ _) (λ st. c.place_of.ensures ∙ c.before-then-place-self.ensures ∙ below_is _ _ _ _ st c.args.place c.if-place-self.true ∙ below_steps _ _ _ _ st c.args.place i (rw add-one at e));
     }
 
 pub returns-else-place-self : goal.returns-else-place-self

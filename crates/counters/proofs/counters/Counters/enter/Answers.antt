@@ -10,23 +10,19 @@ use Rattle.counters.proofs.Sets.{rows_set}
 use Rattle.counters.proofs.Hits.{made, no_place, no_count, not_made, used_of, enter_made}
 use Rattle.counters.proofs.counters.Counters.enter.Goals as goal
 
-pub invariant-of-self : goal.invariant-of-self
-invariant-of-self g c =
+pub invariant_of-self : goal.invariant_of-self
+invariant_of-self g c =
     let s = c.args.self.now in
     let t = s.table.places.now in
     let n = c.unused-detached in
     let l = c.label.ensures in
     let z = ap length l.places ∙ length_edit (labelled c.args.item 0) n.result.place t in
-    let z' = c.attach.ensures.size in (
-      omega (arith, s.small, z, z'),
-      (
-        omega (arith, c.if-place-self.false, z, z'),
-        (
-          ∥∥₁_map s.sound (λ st. rw c.in-Some.ensures.1 (enter_made _ _ _ _ _ _ _ _ _ _ _ st c.if-place-self.false n.ensures.place n.ensures.after l.places l.lists c.attach.ensures).stands),
-          tt,
-        ),
-      ),
-    )
+    let z' = c.attach.ensures.size in
+    record {
+      small = omega (arith, s.small, z, z');
+      fits = omega (arith, c.if-place-self.false, z, z');
+      sound = ∥∥₁_map s.sound (λ st. rw c.in-Some.ensures.1 (enter_made _ _ _ _ _ _ _ _ _ _ _ st c.if-place-self.false n.ensures.place n.ensures.after l.places l.lists c.attach.ensures).stands);
+    }
 
 pub returns-then-place-self : goal.returns-then-place-self
 returns-then-place-self g c =

@@ -5,4 +5,4 @@ use Rattle.counters.proofs.Sets.{links_set}
 use Rattle.counters.proofs.counters.Counters.first.Goals as goal
 
 pub returns : goal.returns
-returns g c = c.place-of.ensures ∙ c.first.ensures ∙ ∥∥₁_elim c.args.self.now.sound (links_set _ _) (λ st. first_is _ _ _ _ st)
+returns g c = c.place_of.ensures ∙ c.first.ensures ∙ ∥∥₁_elim c.args.self.now.sound (links_set _ _) (λ st. first_is _ _ _ _ st)

@@ -3,19 +3,19 @@ use Rattle.std.proofs.Common.{◌≡◌, ◌≤◌, min, length, refl, ◌∙◌
 use Rattle.table.proofs.Moving.{stands_new}
 use Rattle.counters.proofs.counters.Counters.new.Goals as goal
 
-pub invariant-of-result : goal.invariant-of-result
-invariant-of-result g c =
-    let f = c.free-all-free.ensures in
-    let z = c.split-at-mut-places.ensures.front-len in
-    let r = c.at-most-room.ensures in
-    let n : length c.free-all-free.new.places ≤ 512 = omega (arith, f.size, z, r) in
-    let e : length c.free-all-free.new.places ≡ min (length c.split-at-mut-places.result.0.now) 65536 = omega (arith, f.size, n) in
-    (n, (omega arith, (∣ stands_new _ _ _ f.list e ∣₁, tt)))
+pub invariant_of-result : goal.invariant_of-result
+invariant_of-result g c =
+    let f = c.free_all-free.ensures in
+    let z = c.split_at_mut-places.ensures.front_len in
+    let r = c.at_most-room.ensures in
+    let n : length c.free_all-free.new.places ≤ 512 = omega (arith, f.size, z, r) in
+    let e : length c.free_all-free.new.places ≡ min (length c.split_at_mut-places.result.0.now) 65536 = omega (arith, f.size, n) in
+    record { small = n; fits = omega arith; sound = ∣ stands_new _ _ _ f.list e ∣₁ }
 
 pub returns : goal.returns
 returns g c =
     record {
       row = refl;
       total = refl;
-      size = c.free-all-free.ensures.size ∙ c.split-at-mut-places.ensures.front-len ∙ c.at-most-room.ensures;
+      size = c.free_all-free.ensures.size ∙ c.split_at_mut-places.ensures.front_len ∙ c.at_most-room.ensures;
     }

@@ -6,28 +6,24 @@ use Rattle.counters.proofs.Sets.{rows_set}
 use Rattle.counters.proofs.Hits.{made, no_place, no_count, not_made, used_of, count_of, raise_made}
 use Rattle.counters.proofs.counters.Counters.raise.Goals as goal
 
-pub overflow-add-count : goal.overflow-add-count
-overflow-add-count g c =
+pub overflow_add-count : goal.overflow_add-count
+overflow_add-count g c =
     let s = c.args.self.now in
     let u = count_of s c.args.place c.if-place-self.false in
     let e = c.detach-detached.ensures.count in
     let k = c.in-Some.ensures.0 in search rules
 
-pub invariant-of-self : goal.invariant-of-self
-invariant-of-self g c =
+pub invariant_of-self : goal.invariant_of-self
+invariant_of-self g c =
     let s = c.args.self.now in
     let d = c.detach-detached.ensures in
     let z = d.out.quiet.size in
-    let z' = c.attach.ensures.size in (
-      omega (arith, s.small, z, z'),
-      (
-        omega (arith, s.fits, z, z'),
-        (
-          ∥∥₁_map s.sound (λ st. rw c.in-Some.ensures.1 (raise_made _ _ _ _ _ _ _ _ c.args.place _ _ _ st c.if-place-self.false d.out d.place d.count c.attach.ensures).stands),
-          tt,
-        ),
-      ),
-    )
+    let z' = c.attach.ensures.size in
+    record {
+      small = omega (arith, s.small, z, z');
+      fits = omega (arith, s.fits, z, z');
+      sound = ∥∥₁_map s.sound (λ st. rw c.in-Some.ensures.1 (raise_made _ _ _ _ _ _ _ _ c.args.place _ _ _ st c.if-place-self.false d.out d.place d.count c.attach.ensures).stands);
+    }
 
 pub returns-then-place-self : goal.returns-then-place-self
 returns-then-place-self g c =

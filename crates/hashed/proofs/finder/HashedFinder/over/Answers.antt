@@ -5,11 +5,15 @@ use Rattle.hashed.specs.Steps.{below, Cleared}
 use Rattle.hashed.proofs.Clearing.{cleared_sound}
 use Rattle.hashed.proofs.finder.HashedFinder.over.Goals as goal
 
-pub invariant-of-result : goal.invariant-of-result
-invariant-of-result g c =
+pub invariant_of-result : goal.invariant_of-result
+invariant_of-result g c =
     let t = c.clear-free.new.slots in
-    let size : length t ≡ length c.split-at-mut-slots.result.0.now = c.clear-free.auto.slots in
+    let size : length t ≡ length c.split_at_mut-slots.result.0.now = c.clear-free.auto.slots in
     let P : ℕ → Type 0 = λ n. Cleared t n in
     let Q : Option ℕ → Type 0 = λ o. Sound t o in
     let sound = subst Q (ap below size ∙ sym c.clear-free.ensures.free) (cleared_sound t (subst P (sym size) c.clear-free.ensures.cleared)) in
-    (omega (arith, c.split-at-mut-slots.ensures.front-len, c.min-count.ensures), (sym (ap length c.clear-free.ensures.empty), (∣ sound ∣₁, tt)))
+    record {
+      few = omega (arith, c.split_at_mut-slots.ensures.front_len, c.min-count.ensures);
+      counted = sym (ap length c.clear-free.ensures.empty);
+      sound = ∣ sound ∣₁;
+    }

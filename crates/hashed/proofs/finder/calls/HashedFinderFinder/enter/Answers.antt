@@ -18,11 +18,11 @@ insert-requires g c =
     let f = c.args.self.now in
     free_inside f.table.slots.now f.table.free c.in-Some.here c.in-Some.is f.sound
 
-pub overflow-add-self : goal.overflow-add-self
-overflow-add-self g c = let f = c.args.self.now in omega (arith, slots_within f.table.slots.now, f.few, f.counted)
+pub overflow_add-self : goal.overflow_add-self
+overflow_add-self g c = let f = c.args.self.now in omega (arith, slots_within f.table.slots.now, f.few, f.counted)
 
-pub invariant-of-self : goal.invariant-of-self
-invariant-of-self g c =
+pub invariant_of-self : goal.invariant_of-self
+invariant_of-self g c =
     let f = c.args.self.now in
     let t = f.table.slots.now in
     let t' = c.insert.new.self.slots.now in
@@ -34,7 +34,7 @@ invariant-of-self g c =
     let size = as_many t t' f.table.free c.insert.new.self.free i e columns in
     let more : length (bindings_in (entries t')) ≡ length (bindings_in (set (entries t) i e)) = ap (λ (es : List (Entry g.row.T.Denot)). length (bindings_in es)) columns.entered in
     let sound = ∥∥₁_map f.sound (sound_inserted t t' f.table.free c.insert.new.self.free i e (omega arith) inside c.in-Some.is refl columns c.insert.ensures.free) in
-    (omega (arith, size, f.few), (omega (arith, put_length out, f.counted), (sound, tt)))
+    record { few = omega (arith, size, f.few); counted = omega (arith, put_length out, f.counted); sound = sound }
 
 pub returns-in-Some : goal.returns-in-Some
 returns-in-Some g c =
@@ -50,7 +50,7 @@ returns-in-Some g c =
     let inside : i < length es = omega (arith, free_inside t f.table.free i c.in-Some.is f.sound, length-map t (λ s. s.entry)) in
     let unused = free_unused t f.table.free i c.in-Some.is f.sound in
     let absent : Lawful same mark_of es → lookup same (bindings_in es) c.args.item ≡ None =
-    λ lawful. none_from_test _ (c.if-is-some.ensures ∙ ap is_some (c.find.ensures lawful)) in
+    λ lawful. none_from_test _ (c.if-is_some.ensures ∙ ap is_some (c.find.ensures lawful)) in
     let room : length (bindings_in es) < length t = omega (arith, spare es i e inside unused refl, length-map t (λ s. s.entry)) in
     let P : List (Entry g.row.T.Denot) → Type 0 = λ cs. Lawful same mark_of cs in
     let Q : List (Entry g.row.T.Denot) → Type 0 = λ cs. Entered same (bindings_in es) c.args.item c.args.place (bindings_in cs) in
@@ -67,7 +67,7 @@ returns-in-None g c =
     let f = c.args.self.now in
     let t = f.table.slots.now in
     record {
-      answer = λ lawful. fills g.T.Kind.same (bindings_in (entries t)) c.args.item (length t) (none_from_test _ (c.if-is-some.ensures ∙ ap is_some (c.find.ensures lawful))) (full t f.table.free c.in-None.is f.sound);
+      answer = λ lawful. fills g.T.Kind.same (bindings_in (entries t)) c.args.item (length t) (none_from_test _ (c.if-is_some.ensures ∙ ap is_some (c.find.ensures lawful))) (full t f.table.free c.in-None.is f.sound);
       refused = refl;
       entered = λ _. tt;
       room = refl;

@@ -17,21 +17,21 @@ remove-requires g c =
     let f = c.args.self.now in
     let located = c.in-Some.ensures in
     record {
-      chain = c.chain-for-chain.ensures.below;
+      chain = c.chain_for-chain.ensures.below;
       before = before_inside g.T.Kind.same f.table.slots.now f.table.free c.args.item.now _ _ _ f.sound located;
       here = located.inside;
     }
 
-pub overflow-sub-self : goal.overflow-sub-self
-overflow-sub-self g c =
+pub overflow_sub-self : goal.overflow_sub-self
+overflow_sub-self g c =
     let f = c.args.self.now in
     let t = f.table.slots.now in
     let located = c.in-Some.ensures in
     let inside = located.inside in
     omega (arith, put_length (put_spent (entries t) c.in-Some.spot.here (blank c.args.item.now) (omega (arith, length-map t (λ s. s.entry))) located.used), f.counted)
 
-pub invariant-of-self : goal.invariant-of-self
-invariant-of-self g c =
+pub invariant_of-self : goal.invariant_of-self
+invariant_of-self g c =
     let f = c.args.self.now in
     let t = f.table.slots.now in
     let t' = c.remove.new.self.slots.now in
@@ -41,7 +41,7 @@ invariant-of-self g c =
     let located = c.in-Some.ensures in
     let inside : i < length t = located.inside in
     let columns = c.remove.ensures.moved d in
-    let chain = c.chain-for-chain.ensures.value in
+    let chain = c.chain_for-chain.ensures.value in
     let out = put_spent (entries t) i d (omega (arith, length-map t (λ s. s.entry))) located.used in
     let size = as_many t t' f.table.free c.remove.new.self.free i e columns in
     let less : length (bindings_in (entries t')) ≡ length (bindings_in (set (entries t) i e)) = ap (λ (es : List (Entry g.row.T.Denot)). length (bindings_in es)) columns.entered in
@@ -49,8 +49,8 @@ invariant-of-self g c =
     ∥∥₁_map f.sound
     (λ st.
     let P : ℕ → Type 0 = λ b. Split (st.chain b) c.in-Some.spot.before i in
-    sound_removed t t' f.table.free c.remove.new.self.free i c.chain-for-chain.result c.in-Some.spot.before e inside c.chain-for-chain.ensures.below refl columns c.remove.ensures.free st (subst P (sym chain) (located.split f.table.free st))) in
-    (omega (arith, size, f.few), (omega (arith, put_length out, f.counted), (sound, tt)))
+    sound_removed t t' f.table.free c.remove.new.self.free i c.chain_for-chain.result c.in-Some.spot.before e inside c.chain_for-chain.ensures.below refl columns c.remove.ensures.free st (subst P (sym chain) (located.split f.table.free st))) in
+    record { few = omega (arith, size, f.few); counted = omega (arith, put_length out, f.counted); sound = sound }
 
 pub returns-in-Some : goal.returns-in-Some
 returns-in-Some g c =
