@@ -17,8 +17,8 @@ returns-then-not-reaches g c =
     let list = lists_before c.args.threshold (by_position row) n c.in-Some.entry (highest_first c.args.counters.now) at (sym c.if-not-reaches.ensures) inv.1 in
     record { list = list; number = number_of (λ e. line (sure c.args.threshold e) e) _ (by_position row) n inv.1.within list }
 
-pub overflow-add-listed : goal.overflow-add-listed
-overflow-add-listed g c =
+pub overflow_add-listed : goal.overflow_add-listed
+overflow_add-listed g c =
     let row = row_of c.args.counters.now in
     let n = c.loop-entry.listed in
     let at = met row n _ _ (c.next.ensures.entry n c.loop-entry.invariant.0) c.in-Some.is in
@@ -44,5 +44,5 @@ returns g c =
     let row = row_of c.args.counters.now in
     let n = c.loop-entry.listed in
     let inv = c.loop-entry.invariant in
-    let list = lists_up_to c.args.threshold (by_position row) n (past row n _ (c.next.ensures.entry n inv.0) c.in-default.is) inv.1 in
+    let list = lists_up_to c.args.threshold (by_position row) n (past row n _ (c.next.ensures.entry n inv.0) c.in_default.is) inv.1 in
     record { list = list; number = number_of (λ e. line (sure c.args.threshold e) e) _ (by_position row) n inv.1.within list }

@@ -7,7 +7,7 @@ use Rattle.lists.specs.Marks.{line_of}
 use Rattle.lists.proofs.Places.{met, past}
 use Rattle.lists.proofs.Writing.{Written, write_more, write_all}
 use Rattle.lists.proofs.lines.write_lines.Goals as goal
-use Rattle.lists.proofs.lines.write_lines.Goals.{in-Some, in-default}
+use Rattle.lists.proofs.lines.write_lines.Goals.{in-Some, in_default}
 
 pub loop-i-preserved : goal.loop-i-preserved
 loop-i-preserved g c =
@@ -19,9 +19,9 @@ loop-i-preserved g c =
       c.next.ensures.passed i inv.0,
       elim c.match-next.branch [
         | in-Some w ↦
-            w.lines-is ∙ w.put-line.ensures ∙ ap (set c.loop-i.lines i) w.line-of.ensures
+            w.lines-is ∙ w.put_line.ensures ∙ ap (set c.loop-i.lines i) w.line_of.ensures
             ∙ write_more (line_of c.args.threshold) (by_position row) c.args.lines.now i w.in-Some.entry c.loop-i.lines (met row i c.next.result w.in-Some.entry is w.in-Some.is) room inv.1
-        | in-default w ↦ absurd (omega (arith, past row i c.next.result is w.in-default.is, length-reverse row, c.requires.0, c.loop-i-test.true))
+        | in_default w ↦ absurd (omega (arith, past row i c.next.result is w.in_default.is, length-reverse row, c.requires.0, c.loop-i-test.true))
       ],
     )
 

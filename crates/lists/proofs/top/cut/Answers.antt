@@ -49,11 +49,11 @@ returns-then-front-outside g c =
     let s = c.args.counters.now in
     let n = c.loop-entry.front.positions in
     let inv = c.loop-entry.invariant in
-    cut_at_end (size s) c.args.k s.total (row_of s) n c.loop-entry.front.least c.outside.result (past (row_of s) n _ (c.next.ensures.entry n inv.0) c.in-default.is) (outside_under s) c.outside.ensures c.if-front-outside.true inv.1
+    cut_at_end (size s) c.args.k s.total (row_of s) n c.loop-entry.front.least c.outside.result (past (row_of s) n _ (c.next.ensures.entry n inv.0) c.in_default.is) (outside_under s) c.outside.ensures c.if-front-outside.true inv.1
 
 pub returns-else-front-outside : goal.returns-else-front-outside
 returns-else-front-outside g c =
     let s = c.args.counters.now in
     let n = c.loop-entry.front.positions in
     let inv = c.loop-entry.invariant in
-    no_cut (size s) c.args.k s.total (row_of s) n c.loop-entry.front.least c.outside.result (past (row_of s) n _ (c.next.ensures.entry n inv.0) c.in-default.is) (outside_under s) c.outside.ensures c.if-front-outside.false inv.1
+    no_cut (size s) c.args.k s.total (row_of s) n c.loop-entry.front.least c.outside.result (past (row_of s) n _ (c.next.ensures.entry n inv.0) c.in_default.is) (outside_under s) c.outside.ensures c.if-front-outside.false inv.1
