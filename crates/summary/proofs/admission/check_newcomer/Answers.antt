@@ -9,4 +9,4 @@ pub returns-then-used-size : goal.returns-then-used-size
 returns-then-used-size g c lawful =
     let s = c.args.counters.now in
     let full : ltb (length (placed s)) (size s) ≡ false = le-ltb (length (placed s)) (size s) (omega arith) in
-    c.check-first.ensures lawful ∙ ap (λ (b : Bool). unless_refused (if_foreign b)) (sym (cond-false (ltb (length (placed s)) (size s)) _ _ full))
+    c.check_first.ensures lawful ∙ ap (λ (b : Bool). unless_refused (if_foreign b)) (sym (cond-false (ltb (length (placed s)) (size s)) _ _ full))
