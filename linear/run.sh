@@ -6,15 +6,14 @@
 here=$(cd "$(dirname "$0")" && pwd) bad=0
 
 # What the copies are checked against, proved once.
-(cd "$here/.." && rt dev counters >/dev/null) || { echo "counters are not proved"; exit 1; }
+(cd "$here/../crates/counters" && rt check >/dev/null 2>&1) || { echo "counters are not proved"; exit 1; }
 
 field() { sed -n "s/^$2: //p" "$1"; }
 
 # edited EDIT FIELD DIR: a copy of the repository in DIR, with the edit's old text replaced by the field's
 edited() {
     file=$(field "$1" file)
-    cp -r "$here/../crates.txt" "$here/../crates" "$3"
-    if [ -d "$here/../target" ]; then cp -r "$here/../target" "$3"; fi
+    tar -C "$here/.." --exclude='crates/*/out' -cf - crates.txt crates | tar -C "$3" -xf -
     OLD=$(field "$1" old) NEW=$(field "$1" "$2") awk '
         { text = text $0 "\n" }
         END {
@@ -30,7 +29,7 @@ for edit in "$here"/*.edit; do
     for kind in new twin; do
         dir=$(mktemp -d)
         edited "$edit" "$kind" "$dir" || { bad=1; rm -rf "$dir"; continue; }
-        if (cd "$dir" && rt dev counters) >"$dir/log" 2>&1; then ended=proved
+        if (cd "$dir/crates/counters" && rt check) >"$dir/log" 2>&1; then ended=proved
         elif grep -q "error\[$want\]" "$dir/log"; then ended=refused
         elif grep -q "error\[" "$dir/log"; then ended=other
         else ended=taken; fi

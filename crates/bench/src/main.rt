@@ -1,4 +1,6 @@
 // Look-ups that miss in a full finder: the work whose instructions are counted, once for each finder.
+#![tactic(auto)]
+
 ghost use Rattle.std.specs.Prelude.{◌≤◌, length};
 
 use finders::finder::{Binding, Finder};

@@ -1,7 +1,7 @@
 -- The frequent list and the top list of a row as lines, and what is answered beside them.
 use Rattle.std.specs.Prelude.{ℕ, Bool, false, List, ◌++◌, map, length, drop}
 use Rattle.rows.specs.declared.entry.Entry.{Entry}
-use Rattle.rows.specs.Questions.{threshold, frequent, sure, complete, top, guaranteed, ordered}
+use Rattle.rows.specs.Questions.{frequent, sure, complete, top, guaranteed, ordered}
 use Rattle.calls.specs.declared.answers.Line.{Line}
 use Rattle.calls.specs.declared.answers.FrequentList.{FrequentList}
 use Rattle.calls.specs.declared.answers.TopList.{TopList}

@@ -1,5 +1,5 @@
 -- Two facts on the front of a row of slots, for the ghost members of a finder that keeps its bindings there.
-use Rattle.std.specs.Prelude.{◌≡◌, ℕ, ◌≤◌, Bool, List, [], length, take}
+use Rattle.std.specs.Prelude.{◌≡◌, ℕ, ◌≤◌, Bool, List, length, take}
 use Rattle.std.proofs.Common.{sym, subst, arith, length-take}
 use Rattle.std.proofs.lemmas.List.{nil_from_length}
 use Rattle.finders.specs.declared.finder.Binding.{Binding}

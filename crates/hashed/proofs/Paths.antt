@@ -1,5 +1,5 @@
 -- Paths through links: where one begins settles it, so it never comes back to a slot.
-use Rattle.std.proofs.Common.{◌≡◌, ℕ, zero, suc, ◌<◌, ◌≤◌, ◌⊎◌, List, [], ◌∷◌, length, Some, None, Option, sym, refl, ap, ◌∙◌, subst, inl, inr, ⊎_elim, arith}
+use Rattle.std.proofs.Common.{◌≡◌, ℕ, zero, suc, ◌<◌, ◌≤◌, List, [], ◌∷◌, length, Some, None, Option, sym, refl, ap, ◌∙◌, subst, inl, inr, ⊎_elim, arith}
 use Rattle.hashed.specs.Chains.{In, Path}
 use Rattle.hashed.specs.Steps.{onto}
 use Rattle.hashed.proofs.Lists.{Distinct}

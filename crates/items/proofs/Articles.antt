@@ -1,5 +1,5 @@
 -- The laws of articles: what an article that was made tells of its bytes.
-use Rattle.std.proofs.Common.{◌≡◌, ℕ, ◌-◌, ◌≤◌, Bool, true, false, cond, eqb, List, length, Some, None, Ok, Err, Option, sym, refl, ap, ◌∙◌, arith}
+use Rattle.std.proofs.Common.{◌≡◌, ℕ, ◌-◌, ◌≤◌, Bool, true, false, cond, List, length, Some, None, Ok, Err, Option, sym, refl, ap, ◌∙◌, arith}
 use Rattle.std.proofs.lemmas.List.{length-map}
 use Rattle.std.proofs.lemmas.Bool.{eq-eqb, eqb-true}
 use Rattle.std.proofs.lemmas.Bool.Decides.{nat_tests}
@@ -7,10 +7,10 @@ use Rattle.std.specs.Str.{all_ascii_digits}
 use Rattle.items.specs.declared.article.Article.{Article}
 use Rattle.items.specs.declared.article.Length.{Length}
 use Rattle.items.specs.declared.article.Length.TheVariants.{Eight, Twelve, Thirteen, Fourteen}
-use Rattle.items.specs.declared.fault.ArticleFault.TheVariants.{WrongLength, NotADigit, WrongCheckDigit}
-use Rattle.items.specs.Articles.{digits, digit_count, length_of, if_length, made_from, same_article}
+use Rattle.items.specs.declared.fault.ArticleFault.TheVariants.{NotADigit, WrongCheckDigit}
+use Rattle.items.specs.Articles.{digits, digit_count, length_of, if_length, made_from}
 use Rattle.items.specs.ArticleLaws.{Spells, ArticleLaws}
-use Rattle.items.specs.Gtins.{checked, number_of, filled}
+use Rattle.items.specs.Gtins.{checked, number_of}
 use Rattle.items.proofs.Digits.{digits_under}
 use Rattle.items.proofs.Zeros.{checked_zeros, number_of_zeros, filled_tells}
 

@@ -1,5 +1,5 @@
 -- Articles: which bytes make one, and which two are the same.
-use Rattle.std.specs.Prelude.{ℕ, ◌-◌, ◌%◌, Bool, cond, List, map, reverse, length, Some, None, Ok, Err, Option, Result, ◌==◌}
+use Rattle.std.specs.Prelude.{ℕ, ◌-◌, ◌%◌, Bool, cond, List, map, length, Some, None, Ok, Err, Option, Result, ◌==◌}
 use Rattle.std.specs.Str.{all_ascii_digits}
 use Rattle.items.specs.declared.article.Article.{Article}
 use Rattle.items.specs.declared.article.Length.{Length}

@@ -1,5 +1,7 @@
 // What is counted: the laws that every kind of item keeps, and two kinds, labels and articles.
 // Uses nothing but `std`.
+#![tactic(auto)]
+
 pub mod article;
 pub mod fault;
 pub mod kind;

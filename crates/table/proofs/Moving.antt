@@ -21,7 +21,7 @@ use Rattle.table.proofs.Rising.{seat, rises_right}
 use Rattle.table.proofs.Rows.{row, row_agree, row_sound}
 use Rattle.table.proofs.Attaching.{Between, Attached, detached, unused, relabelled, row_labelled, attached}
 use Rattle.table.proofs.Looking.{crowd, lowest_is}
-use Rattle.table.proofs.Seats.{owner_is, within, own, lower_part, upper_part, own_read, row_split, row_rest, at_own, off_own}
+use Rattle.table.proofs.Seats.{owner_is, own, lower_part, upper_part, own_read, row_split, row_rest, at_own, off_own}
 
 -- The lowest counter is the first of the first group.
 pub record Lowest (gs : List Group) (p : ℕ) : Type 0 where

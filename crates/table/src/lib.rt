@@ -2,6 +2,8 @@
 // hang in one bucket; the buckets in use are linked in rising order of their counts, and the others are linked as free.
 // This crate moves counters and buckets within the lent places, each move by a constant number of accesses. It knows
 // lists, places and counts, and nothing of items or of who asks.
+#![tactic(auto)]
+
 mod fields;
 pub mod lists;
 pub mod moves;

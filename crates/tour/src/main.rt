@@ -1,5 +1,7 @@
 // A tour: a delivery of article codes is checked in, and a morning of label redraws is counted, each step told in plain
 // words. Uses the library as any program would, and prints.
+#![tactic(auto)]
+
 mod delivery;
 mod morning;
 mod words;

@@ -1,3 +1,5 @@
+#![tactic(auto)]
+
 // Tests that span crates: every finder is put through the same calls, and counts the same.
 // Uses `items`, `finders`, `hashed`, `table`, `counters`, `calls` and `summary`.
 #[cfg(test)]

@@ -1,5 +1,5 @@
 -- The slot of the item that leaves is filled by the last: what is held fits, and the map is without the item.
-use Rattle.std.proofs.Common.{◌≡◌, ◌<◌, ◌≤◌, length, get_or, take, set, sym, ap, ◌∙◌, arith, length-set}
+use Rattle.std.proofs.Common.{◌≡◌, ◌<◌, ◌≤◌, length, take, sym, ap, ◌∙◌, arith, length-set}
 use Rattle.std.proofs.lemmas.List.{length-take-le, get_or-take}
 use Rattle.finders.specs.declared.finder.Binding.{Binding}
 use Rattle.finders.proofs.Entering.{apart_left, left_front}
