@@ -3,7 +3,7 @@
 use Rattle.std.proofs.Common.{◌≡◌, ℕ, ◌<◌, ◌≤◌, Bool, false, List, [], ◌∷◌, ◌++◌, length, IfOk, Some, None, Ok, Err, Option, Result, sym, refl, ap, ◌∙◌, subst, subst₂, append-nil, arith, length-append}
 use mathlib.Core.Path.{fun_ext}
 use lib.ListN.{length-map}
-use Rattle.std.specs.List.{AllByRecursion as All}
+use Rattle.std.specs.List.{AllByRecursion as Each}
 use Rattle.std.proofs.ByRecursion.{All-weaker}
 use Rattle.items.specs.Sameness.{Equivalence}
 use Rattle.rows.specs.Row.{row_after, hit}
@@ -85,7 +85,7 @@ module _ {S T F : Type 0} (same : T → T → Bool) (laws : Equivalence same) (b
             sym (finds_step same laws (reading.size s) some (reading.placed s) seated x (all_differ same (reading.placed s) sound.table.in_order.apart) (place_in same (reading.placed s) x) refl y) ∙
             ap (λ row. place_in same row y) (sym placed_after)
 
-        own_after : All (λ e. lookup same (bindings f') e.entry.item ≡ Some e.place) (reading.placed s')
+        own_after : Each (λ e. lookup same (bindings f') e.entry.item ≡ Some e.place) (reading.placed s')
         own_after =
             All-weaker (λ e. place_in same (reading.placed s') e.entry.item ≡ Some e.place) (λ e. lookup same (bindings f') e.entry.item ≡ Some e.place) (λ e is. finds_after e.entry.item ∙ is) (reading.placed s')
             (own_places same laws (reading.placed s') (all_differ same (reading.placed s') in_order_after.apart))

@@ -1,6 +1,6 @@
 -- The promise, from an opening on: call by call through every history.
 use Rattle.std.proofs.Common.{◌≡◌, ℕ, Bool, List, [], ◌∷◌, ◌++◌, length, is_ok, IfOk, Some, None, Ok, Err, Option, Result, sym, refl, ap, ◌∙◌, subst, arith}
-use Rattle.std.specs.List.{AllByRecursion as All}
+use Rattle.std.specs.List.{AllByRecursion as Each}
 use Rattle.std.proofs.lemmas.List.{nil_from_length}
 use Rattle.std.proofs.lemmas.Bool.{false≢true}
 use Rattle.items.specs.Sameness.{Equivalence}
@@ -69,7 +69,7 @@ module _ {S T F : Type 0} (same : T → T → Bool) (laws : Equivalence same) (b
             seated = reliable.seated s;
             structured = reliable.structured s;
           };
-          own = subst (λ row. All (λ e. lookup same (bindings f) e.entry.item ≡ Some e.place) row) (sym opened.empty) tt;
+          own = subst (λ row. Each (λ e. lookup same (bindings f) e.entry.item ≡ Some e.place) row) (sym opened.empty) tt;
           finds = λ x. ap (λ bs. lookup same bs x) (nil_from_length (bindings f) can.empty) ∙ ap (λ row. place_in same row x) (sym opened.empty);
           held = can.empty ∙ sym none;
           fits = can.fits;

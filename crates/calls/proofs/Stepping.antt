@@ -1,7 +1,7 @@
 -- The placed row, where the place found is that of the item's entry: a hit does to it what the row machine does.
 use Rattle.std.proofs.Common.{◌≡◌, ℕ, ◌+◌, ◌<◌, ◌≤◌, Bool, true, false, cond, not, eqb, ltb, leb, List, [], ◌∷◌, length, Some, None, Option, sym, refl, ap, ◌∙◌, subst, arith}
 use lib.ListN.{length-map}
-use Rattle.std.specs.List.{AllByRecursion as All}
+use Rattle.std.specs.List.{AllByRecursion as Each}
 use Rattle.std.proofs.ByRecursion.{All-weaker}
 use Rattle.std.proofs.lemmas.Bool.{cond-true, cond-false, cond_both, eq-eqb, lt-leb, ltb-true, ltb-false, both_ways, or_from}
 use Rattle.items.specs.Sameness.{Equivalence}
@@ -101,7 +101,7 @@ module _ {T : Type 0} (same : T → T → Bool) where
 
   -- No entry is of x.
   abbrev pub Missing : T → List (Placed T) → Type 0
-  Missing x row = All (λ e. same e.entry.item x ≡ false) row × (entry_of same x (entries row) ≡ None)
+  Missing x row = Each (λ e. same e.entry.item x ≡ false) row × (entry_of same x (entries row) ≡ None)
 
   missing : (x : T) (row : List (Placed T)) → place_in same row x ≡ None → Missing x row
   missing x [] eq = (tt, refl)
@@ -116,7 +116,7 @@ module _ {T : Type 0} (same : T → T → Bool) where
   abbrev pub Differ : Placed T → Placed T → Type 0
   Differ a b = same a.entry.item b.entry.item ≡ false
 
-  all_entries : (P : Entry T → Type 0) (row : List (Placed T)) → All P (entries row) → All (λ e. P e.entry) row
+  all_entries : (P : Entry T → Type 0) (row : List (Placed T)) → Each P (entries row) → Each (λ e. P e.entry) row
   all_entries P [] a = tt
   all_entries P (e ∷ row) a = (a.0, all_entries P row a.1)
 
@@ -133,7 +133,7 @@ module _ {T : Type 0} (same : T → T → Bool) where
         go false t = sym (flipped same laws x y t)
 
     -- Looking an item up in a row with one entry put in.
-    place_put : {e : Placed T} {rest row : List (Placed T)} → Put e rest row → All (Differ e) rest → (y : T) → place_in same row y ≡ cond (same e.entry.item y) (Some e.place) (place_in same rest y)
+    place_put : {e : Placed T} {rest row : List (Placed T)} → Put e rest row → Each (Differ e) rest → (y : T) → place_in same row y ≡ cond (same e.entry.item y) (Some e.place) (place_in same rest y)
     place_put here a y = refl
     place_put {e} (there {f} {rest} o) a y =
         ap (λ r. cond (same f.entry.item y) (Some f.place) r) (place_put o a.1 y) ∙
@@ -146,16 +146,16 @@ module _ {T : Type 0} (same : T → T → Bool) where
         swap false c n = refl
 
     -- An item the same as x, from whose item all entries differ, has no place.
-    no_place : (x y : T) (row : List (Placed T)) → All (λ e. same x e.entry.item ≡ false) row → same x y ≡ true → place_in same row y ≡ None
+    no_place : (x y : T) (row : List (Placed T)) → Each (λ e. same x e.entry.item ≡ false) row → same x y ≡ true → place_in same row y ≡ None
     no_place x y [] a t = refl
     no_place x y (f ∷ row) a t =
         cond-false (same f.entry.item y) _ _ (false_since (same f.entry.item y) (λ u. both_ways (same x f.entry.item) a.0 (laws.transitive x y f.entry.item t (laws.symmetric f.entry.item y u)))) ∙ no_place x y row a.1 t
 
-    from_item : (x : T) (row : List (Placed T)) → All (λ e. same e.entry.item x ≡ false) row → All (λ e. same x e.entry.item ≡ false) row
+    from_item : (x : T) (row : List (Placed T)) → Each (λ e. same e.entry.item x ≡ false) row → Each (λ e. same x e.entry.item ≡ false) row
     from_item x row a = All-weaker (λ e. same e.entry.item x ≡ false) (λ e. same x e.entry.item ≡ false) (λ e t. flipped same laws e.entry.item x t) row a
 
     -- Each entry is found at its own place.
-    pub own_places : (row : List (Placed T)) → Pairwise Differ row → All (λ e. place_in same row e.entry.item ≡ Some e.place) row
+    pub own_places : (row : List (Placed T)) → Pairwise Differ row → Each (λ e. place_in same row e.entry.item ≡ Some e.place) row
     own_places [] a = tt
     own_places (f ∷ row) a = (
       cond-true (same f.entry.item f.entry.item) _ _ (laws.reflexive f.entry.item),
@@ -217,12 +217,12 @@ module _ {T : Type 0} (same : T → T → Bool) where
       finds_step apart None eq y = go (ltb (length row) m) refl
         where
           -- The first entry has left.
-          rest : (e : Placed T) (r : List (Placed T)) → All (Differ e) r → (b c : Bool) → same y e.entry.item ≡ b → same e.entry.item y ≡ c → place_in same r y ≡ cond b None (cond c (Some e.place) (place_in same r y))
+          rest : (e : Placed T) (r : List (Placed T)) → Each (Differ e) r → (b c : Bool) → same y e.entry.item ≡ b → same e.entry.item y ≡ c → place_in same r y ≡ cond b None (cond c (Some e.place) (place_in same r y))
           rest e r a true c t u = no_place e.entry.item y r a (sym (turned y e.entry.item) ∙ t)
           rest e r a false true t u = absurd (both_ways (same y e.entry.item) t (turned y e.entry.item ∙ u))
           rest e r a false false t u = refl
 
-          over : (r : List (Placed T)) → Pairwise Differ r → All (λ e. same e.entry.item x ≡ false) r → 1 ≤ length r → place_in same (overtaken x r) y ≡ find_overtaken same x r (place_in same r) y
+          over : (r : List (Placed T)) → Pairwise Differ r → Each (λ e. same e.entry.item x ≡ false) r → 1 ≤ length r → place_in same (overtaken x r) y ≡ find_overtaken same x r (place_in same r) y
           over [] a n l = absurd (omega arith)
           over (e ∷ r) a n l =
               place_put (put_insert (put e.place x (e.entry.count + 1) e.entry.count) r) (from_item x r n.1) y ∙

@@ -2,7 +2,7 @@
 use Rattle.std.proofs.Common.{◌≡◌, ℕ, ◌<◌, ◌≤◌, min, Bool, true, false, cond, ◌||◌, List, [], ◌∷◌, map, length, take, drop, is_some, Some, sym, refl, ap, ◌∙◌, subst, arith, length-append, length-drop}
 use lib.ListN.{length-map}
 use lib.Seq.{take-append_seam, drop-append_seam}
-use Rattle.std.specs.List.{AllByRecursion as All}
+use Rattle.std.specs.List.{AllByRecursion as Each}
 use Rattle.std.proofs.lemmas.List.{take-map, length-reverse}
 use Rattle.std.proofs.ByRecursion.{All-map}
 use Rattle.rows.specs.declared.entry.Entry.{Entry}
@@ -15,7 +15,7 @@ use Rattle.calls.specs.Truth.{entries_of, WrittenFirst, in_lines, TrueFrequentLi
 
 -- ---- lists
 
-all_from_each : {X : Type 0} (P : X → Type 0) → ((x : X) → P x) → (xs : List X) → All P xs
+all_from_each : {X : Type 0} (P : X → Type 0) → ((x : X) → P x) → (xs : List X) → Each P xs
 all_from_each P f [] = tt
 all_from_each P f (x ∷ xs) = (f x, all_from_each P f xs)
 
@@ -70,7 +70,7 @@ module _ {T : Type 0} (same : T → T → Bool) (m : ℕ) (hits : List T) (rows 
         share = rows.thresholds p q some;
         first_positions = entries_marked (sure t) es ∙ k.first_positions ∙ ap (λ n. take n (by_position row)) number;
         reaching = All-map (λ l. t ≤ l.count) (marked (sure t)) es k.reaching;
-        no_more = subst (λ n. All (λ e. e.count < t) (drop n (by_position row))) number k.no_more;
+        no_more = subst (λ n. Each (λ e. e.count < t) (drop n (by_position row))) number k.no_more;
         sure_exactly = All-map _ (marked (sure t)) es (all_from_each _ k.sure_exactly es);
         sure_lines = All-map (λ l. l.sure ≡ true → t ≤ hits_of same hits l.item) (marked (sure t)) es k.sure_lines;
         complete_exactly = k.complete_exactly;

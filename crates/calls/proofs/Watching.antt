@@ -3,7 +3,7 @@ use Rattle.std.proofs.Common.{◌≡◌, ℕ, zero, suc, ◌+◌, ◌≤◌, Boo
 use mathlib.Core.List.{reverse_aux}
 use lib.ListN.{length-map}
 use lib.Seq.{take-append-le}
-use Rattle.std.specs.List.{AllByRecursion as All}
+use Rattle.std.specs.List.{AllByRecursion as Each}
 use Rattle.std.proofs.lemmas.List.{reverse-append, length-reverse}
 use Rattle.std.proofs.ByRecursion.{All-weaker}
 use Rattle.std.proofs.lemmas.Bool.{both_ways, cond-true, cond-false, leb-true, leb-false, ltb-false, not-false, or_parts}
@@ -34,18 +34,18 @@ module _ {X : Type 0} where
   put_reverse_onto (there {f} p) behind = put_reverse_onto p (f ∷ behind)
 
   -- What holds of the first j + 1 holds of the first j; and of the first j without an element.
-  one_less : (P : X → Type 0) (j : ℕ) (xs : List X) → All P (take (suc j) xs) → All P (take j xs)
+  one_less : (P : X → Type 0) (j : ℕ) (xs : List X) → Each P (take (suc j) xs) → Each P (take j xs)
   one_less P zero xs a = tt
   one_less P (suc j) [] a = tt
   one_less P (suc j) (x ∷ xs) a = (a.0, one_less P j xs a.1)
 
-  fewer : (P : X → Type 0) (j : ℕ) {e : X} {rest row : List X} → Put e rest row → All P (take (suc j) row) → All P (take j rest)
+  fewer : (P : X → Type 0) (j : ℕ) {e : X} {rest row : List X} → Put e rest row → Each P (take (suc j) row) → Each P (take j rest)
   fewer P zero p a = tt
   fewer P (suc j) (here {rest}) a = a.1
   fewer P (suc j) (there p) a = (a.0, fewer P j p a.1)
 
   -- What holds of an element and of the first j without it holds of the first j with it.
-  more : (P : X → Type 0) (j : ℕ) {e : X} {rest row : List X} → Put e rest row → P e → All P (take j rest) → All P (take j row)
+  more : (P : X → Type 0) (j : ℕ) {e : X} {rest row : List X} → Put e rest row → P e → Each P (take j rest) → Each P (take j row)
   more P zero p h a = tt
   more P (suc j) (here {rest}) h a = (h, one_less P j rest a)
   more P (suc j) (there p) h a = (a.0, more P j p h a.1)
@@ -69,7 +69,7 @@ room j n l = go (leb (suc j) n) refl
 module _ {T : Type 0} (same : T → T → Bool) (laws : Equivalence same) where
   -- Every entry of one list is listed in another.
   abbrev AllListed : List (Entry T) → List (Entry T) → Type 0
-  AllListed es others = All (λ e. listed same e.item others ≡ true) es
+  AllListed es others = Each (λ e. listed same e.item others ≡ true) es
 
   some_either : (b : Bool) (f : Entry T) (o : Option (Entry T)) → is_some o ≡ true → is_some (cond b (Some f) o) ≡ true
   some_either true f o t = refl
@@ -116,11 +116,11 @@ module _ {T : Type 0} (same : T → T → Bool) (laws : Equivalence same) where
       still_listed (grown q) u = all_in (λ e. listed same e.item was ≡ true) q (to_item new.item was t u) (all_self was)
 
       -- No entry of x goes.
-      none_goes : Change new was is → All (λ e. same e.item x ≡ true → listed same e.item is ≡ true) was
+      none_goes : Change new was is → Each (λ e. same e.item x ≡ true → listed same e.item is ≡ true) was
       none_goes (unchanged e) = All-weaker (λ f. listed same f.item is ≡ true) (λ f. same f.item x ≡ true → listed same f.item is ≡ true) (λ f u _. u) was (subst (λ es. AllListed es is) (sym e) (all_self is))
       none_goes (swapped p q) = each was
         where
-          each : (es : List (Entry T)) → All (λ e. same e.item x ≡ true → listed same e.item is ≡ true) es
+          each : (es : List (Entry T)) → Each (λ e. same e.item x ≡ true → listed same e.item is ≡ true) es
           each [] = tt
           each (e ∷ es) = ((λ u. to_item e.item is u (listed_alike same laws new.item x is t (listed_put same laws q))), each es)
       none_goes (grown q) = All-weaker (λ f. listed same f.item is ≡ true) (λ f. same f.item x ≡ true → listed same f.item is ≡ true) (λ f u _. u) was (all_out (λ e. listed same e.item is ≡ true) q (all_self is)).1

@@ -1,6 +1,6 @@
 -- When a summary and a finder are sound for a list of accepted hits.
 use Rattle.std.specs.Prelude.{◌≡◌, ℕ, ◌≤◌, Bool, List, length, Some}
-use Rattle.std.specs.List.{AllByRecursion as All}
+use Rattle.std.specs.List.{AllByRecursion as Each}
 use Rattle.rows.specs.Row.{row_after}
 use Rattle.rows.specs.Promises.{SoundRow, sum_of_counts}
 use Rattle.finders.specs.declared.finder.Binding.{Binding}
@@ -31,7 +31,7 @@ pub record SoundTable {S T : Type 0} (same : T → T → Bool) (reading : Readin
 pub record Sound {S T F : Type 0} (same : T → T → Bool) (bindings : F → List (Binding T)) (room : F → ℕ) (lawful : F → Type 0) (reading : Reading S T) (Structured : S → Type 0) (m : ℕ) (hits : List T) (s : S) (f : F) : Type 0 where
   pub table : SoundTable same reading Structured m hits s
   -- Looking up the item of a used counter gives the place of that counter.
-  pub own : All (λ e. lookup same (bindings f) e.entry.item ≡ Some e.place) (reading.placed s)
+  pub own : Each (λ e. lookup same (bindings f) e.entry.item ≡ Some e.place) (reading.placed s)
   -- Looking up any item gives the place of its entry, or none if it has none.
   pub finds : (x : T) → lookup same (bindings f) x ≡ place_in same (reading.placed s) x
   pub held : length (bindings f) ≡ reading.used s

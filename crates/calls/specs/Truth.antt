@@ -1,6 +1,6 @@
 -- What every answer says of the accepted hits before it, in words.
 use Rattle.std.specs.Prelude.{◌≡◌, ℕ, ◌-◌, ◌*◌, ◌<◌, ◌≤◌, min, Bool, true, false, ◌||◌, List, [], ◌∷◌, ◌++◌, map, length, take, drop, is_some, is_ok, IfOk, IfErr, Some, None, Ok, Err, Option, Result}
-use Rattle.std.specs.List.{AllByRecursion as All}
+use Rattle.std.specs.List.{AllByRecursion as Each}
 use Rattle.rows.specs.declared.entry.Entry.{Entry}
 use Rattle.rows.specs.Row.{entry, row_after, hits_of}
 use Rattle.rows.specs.Questions.{by_position, outside, figure_after, bracket, threshold, frequent, top, watched}
@@ -49,11 +49,11 @@ module _ {T : Type 0} (same : T → T → Bool) (m : ℕ) (hits : List T) where
     pub share : LeastThreshold p q (length hits) a.threshold
     -- The lines are the first positions, as many as have a count of at least the threshold.
     pub first_positions : entries_of list ≡ take a.lines (by_position (row_after same m hits))
-    pub reaching : All (λ l. a.threshold ≤ l.count) list
-    pub no_more : All (λ e. e.count < a.threshold) (drop a.lines (by_position (row_after same m hits)))
+    pub reaching : Each (λ l. a.threshold ≤ l.count) list
+    pub no_more : Each (λ e. e.count < a.threshold) (drop a.lines (by_position (row_after same m hits)))
     -- A line is sure exactly if its lower figure is at least the threshold; its item then has at least so many hits.
-    pub sure_exactly : All (λ l. Exactly l.sure (a.threshold ≤ l.count - l.error)) list
-    pub sure_lines : All (λ l. l.sure ≡ true → a.threshold ≤ hits_of same hits l.item) list
+    pub sure_exactly : Each (λ l. Exactly l.sure (a.threshold ≤ l.count - l.error)) list
+    pub sure_lines : Each (λ l. l.sure ≡ true → a.threshold ≤ hits_of same hits l.item) list
     -- The list is complete exactly if the outside figure is below the threshold; it then omits no item with so many hits.
     pub complete_exactly : Exactly a.complete (outside m (row_after same m hits) < a.threshold)
     pub omits_none : a.complete ≡ true → (x : T) → a.threshold ≤ hits_of same hits x → in_lines same x list ≡ true
@@ -63,7 +63,7 @@ module _ {T : Type 0} (same : T → T → Bool) (m : ℕ) (hits : List T) where
   pub record TrueTopLines (k : ℕ) (a : TopList) (list : List (Line T)) : Type 0 where
     pub number : length list ≡ a.lines
     pub first_positions : entries_of list ≡ take a.lines (by_position (row_after same m hits))
-    pub never_sure : All (λ l. l.sure ≡ false) list
+    pub never_sure : Each (λ l. l.sure ≡ false) list
     -- The list is guaranteed exactly if some number from min(k, u) to u is clear of the rest, of a row of u entries.
     -- It then has as many lines as the smallest such number; otherwise it has u.
     pub guaranteed_means : a.guaranteed ≡ true → SmallestFrom (min k (length (row_after same m hits))) (length (row_after same m hits)) (ClearOfRest m (row_after same m hits)) a.lines

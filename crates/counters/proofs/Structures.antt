@@ -3,7 +3,7 @@ use mathlib.Core.HLevel.{Unit-prop, ×_prop, ×₃_prop}
 use mathlib.Core.Logic.{∥∥₁_elim}
 use Rattle.std.proofs.Common.{ℕ, ◌<◌, List, [], ◌∷◌, Option}
 use native.Mathlib.Bridge.{le_prop}
-use Rattle.std.specs.List.{AllByRecursion as All}
+use Rattle.std.specs.List.{AllByRecursion as Each}
 use Rattle.links.specs.Chains.{Chain}
 use Rattle.table.specs.Stands.{Stands, Rises}
 use Rattle.table.specs.Structure.{Structure}
@@ -13,7 +13,7 @@ use Rattle.counters.specs.Meaning.{Structured}
 use Rattle.counters.proofs.Sets.{numbers_set, links_set}
 use Rattle.counters.proofs.Hits.{used_of}
 
-all_prop : {X : Type 0} (P : X → Type 0) → ((x : X) → IsProp (P x)) → (xs : List X) → IsProp (All P xs)
+all_prop : {X : Type 0} (P : X → Type 0) → ((x : X) → IsProp (P x)) → (xs : List X) → IsProp (Each P xs)
 all_prop P h [] = Unit-prop
 all_prop P h (x ∷ xs) = ×_prop (h x) (all_prop P h xs)
 

@@ -3,7 +3,7 @@ use Rattle.std.specs.Prelude.{◌≡◌, ℕ, ◌≤◌, Bool, true, List, [], �
 use Rattle.std.proofs.Common.{sym, ap, ◌∙◌, ⊎_elim, arith}
 use Rattle.std.proofs.lemmas.List.{length-map}
 use Rattle.std.proofs.lemmas.Bool.{cond_both, cond-true, cond-false, cases_Bool, both_ways}
-use Rattle.std.specs.List.{AllByRecursion as All}
+use Rattle.std.specs.List.{AllByRecursion as Each}
 use Rattle.finders.specs.Fronts.{empty_apart}
 use Rattle.hashed.specs.declared.slot.Entry.{Entry}
 use Rattle.hashed.specs.declared.slot.Slot.{Slot}
@@ -21,7 +21,7 @@ module _ {T : Type 0} where
   slots_within t = omega (arith, bindings_within (entries t), length-map t (λ s. s.entry))
 
   -- With no binding in use, no mark can be wrong.
-  empty_marked : (mark_of : T → ℕ) (es : List (Entry T)) → length (bindings_in es) ≡ 0 → All (λ e. e.used ≡ true → e.mark ≡ mark_of e.binding.item) es
+  empty_marked : (mark_of : T → ℕ) (es : List (Entry T)) → length (bindings_in es) ≡ 0 → Each (λ e. e.used ≡ true → e.mark ≡ mark_of e.binding.item) es
   empty_marked mark_of [] empty = tt
   empty_marked mark_of (e ∷ es) empty =
       ⊎_elim

@@ -1,6 +1,6 @@
 -- What the slots of a hashed finder stand for, and how they are linked.
 use Rattle.std.specs.Prelude.{◌≡◌, ℕ, ◌%◌, Bool, true, false, cond, List, [], ◌∷◌, map, length, get_or, None, Option, ◌==◌, slice_index_or}
-use Rattle.std.specs.List.{AllByRecursion as All}
+use Rattle.std.specs.List.{AllByRecursion as Each}
 use Rattle.finders.specs.declared.finder.Binding.{Binding}
 use Rattle.finders.specs.Lookup.{Apart}
 use Rattle.hashed.specs.declared.slot.Entry.{Entry}
@@ -38,5 +38,5 @@ module _ {T : Type 0} where
 
 -- What the calls need to know of the items: the marks in store are theirs, and no two are the same.
 pub record Lawful {T : Type 0} (same : T → T → Bool) (mark_of : T → ℕ) (es : List (Entry T)) : Type 0 where
-  pub marked : All (λ e. e.used ≡ true → e.mark ≡ mark_of e.binding.item) es
+  pub marked : Each (λ e. e.used ≡ true → e.mark ≡ mark_of e.binding.item) es
   pub apart : Apart same (bindings_in es)

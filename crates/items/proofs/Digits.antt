@@ -6,13 +6,13 @@ use Rattle.std.proofs.ByRecursion.{All-get_or, All-take, All-map, All-weaker}
 use Rattle.std.proofs.lemmas.List.{take_more, take_all, reverse-append, length-map, length-take-le, get_or-map}
 use Rattle.std.proofs.lemmas.Bool.{and_parts, leb-true}
 use Rattle.std.specs.Int.Digits.{AllBelowBase}
-use Rattle.std.specs.List.{AllByRecursion as All}
+use Rattle.std.specs.List.{AllByRecursion as Each}
 use Rattle.std.specs.Str.{all_ascii_digits}
 use Rattle.items.specs.Articles.{digits}
 use Rattle.items.specs.Gtins.{weighted, check_sum_lem, number_of}
 
 -- Each byte is one from '0' to '9'.
-each_digit : (bytes : List ℕ) → all_ascii_digits bytes ≡ true → All (λ b. (48 ≤ b) × (b ≤ 57)) bytes
+each_digit : (bytes : List ℕ) → all_ascii_digits bytes ≡ true → Each (λ b. (48 ≤ b) × (b ≤ 57)) bytes
 each_digit [] t = tt
 each_digit (b ∷ bytes) t =
     let parts = and_parts _ _ t in

@@ -1,6 +1,6 @@
 -- Places that are linked both ways, over any two functions `next` and `prev` that give the links of a place.
 use Rattle.std.specs.Prelude.{◌≡◌, ℕ, ◌<◌, List, [], ◌∷◌, Some, Option, ◌≢◌}
-use Rattle.std.specs.List.{AllByRecursion as All}
+use Rattle.std.specs.List.{AllByRecursion as Each}
 
 -- The link to the first of the places; `after` if there is none.
 abbrev pub first_or : List ℕ → Option ℕ → Option ℕ
@@ -19,7 +19,7 @@ Chain next prev before (x ∷ xs) after = (prev x ≡ before) × (next x ≡ fir
 
 -- y is none of xs.
 abbrev pub Off : ℕ → List ℕ → Type 0
-Off y xs = All (λ x. x ≢ y) xs
+Off y xs = Each (λ x. x ≢ y) xs
 
 -- No place comes twice.
 abbrev pub Apart : List ℕ → Type 0
@@ -28,8 +28,8 @@ Apart (x ∷ xs) = Off x xs × Apart xs
 
 -- None of xs is one of ys.
 abbrev pub Cross : List ℕ → List ℕ → Type 0
-Cross xs ys = All (λ x. Off x ys) xs
+Cross xs ys = Each (λ x. Off x ys) xs
 
 -- Every place lies below m.
 abbrev pub Within : ℕ → List ℕ → Type 0
-Within m xs = All (λ x. x < m) xs
+Within m xs = Each (λ x. x < m) xs

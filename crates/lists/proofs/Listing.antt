@@ -1,6 +1,6 @@
 -- The entries that reach a threshold are the first ones by position.
 use Rattle.std.proofs.Common.{◌≡◌, ℕ, ◌+◌, ◌<◌, ◌≤◌, true, false, leb, List, [], ◌∷◌, ◌++◌, map, length, take, drop, filter, sym, refl, ap, ◌∙◌, subst, append_assoc, append-nil, arith}
-use Rattle.std.specs.List.{AllByRecursion as All}
+use Rattle.std.specs.List.{AllByRecursion as Each}
 use Rattle.std.proofs.lemmas.List.{drop_all, length-take, length-take-le, length-map}
 use Rattle.std.proofs.ByRecursion.{All-weaker}
 use Rattle.std.proofs.lemmas.Bool.{cond-true, cond-false, leb-false, lt-leb}
@@ -29,7 +29,7 @@ module _ {T : Type 0} (t : ℕ) where
             ∙ sym (append_assoc (take n es) (e ∷ []) behind) ∙ ap (λ (r : List (Entry T)). r ++ behind) (sym at.front);
       }
 
-  none_reach : (es : List (Entry T)) → All (λ e. e.count < t) es → reaching es ≡ []
+  none_reach : (es : List (Entry T)) → Each (λ e. e.count < t) es → reaching es ≡ []
   none_reach [] a = refl
   none_reach (e ∷ es) a = cond-false (leb t e.count) (e ∷ reaching es) (reaching es) (lt-leb t e.count a.0) ∙ none_reach es a.1
 
@@ -45,7 +45,7 @@ module _ {T : Type 0} (t : ℕ) where
   lists_before es n e falls at fails h =
       let low : e.count < t = leb-false t e.count fails in
       let behind : HighestFirst (e ∷ drop (n + 1) es) = subst HighestFirst at.rest (pairwise_drop _ n es falls) in
-      let below : All (λ f. f.count < t) (drop (n + 1) es) = All-weaker (λ f. f.count ≤ e.count) (λ f. f.count < t) (λ f l. omega arith) (drop (n + 1) es) behind.0 in
+      let below : Each (λ f. f.count < t) (drop (n + 1) es) = All-weaker (λ f. f.count ≤ e.count) (λ f. f.count < t) (λ f l. omega arith) (drop (n + 1) es) behind.0 in
       listed_all es n (ap reaching at.rest ∙ none_reach (e ∷ drop (n + 1) es) (low, below)) h
 
 -- The first n, each as something else, are n.

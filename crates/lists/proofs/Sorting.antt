@@ -2,7 +2,7 @@
 use Rattle.std.proofs.Common.{◌≡◌, ℕ, ◌<◌, ◌≤◌, ltb, List, [], ◌∷◌, ◌++◌, map, length, sym, refl, subst, append-nil, arith}
 use mathlib.Core.Logic.{∥∥₁_elim}
 use native.Mathlib.Bridge.{le_prop}
-use Rattle.std.specs.List.{AllByRecursion as All}
+use Rattle.std.specs.List.{AllByRecursion as Each}
 use Rattle.std.proofs.lemmas.List.{length-reverse}
 use Rattle.std.proofs.ByRecursion.{All-weaker, All-append, All-drop}
 use Rattle.std.proofs.lemmas.Bool.{cond_both}
@@ -25,7 +25,7 @@ use Rattle.lists.proofs.Places.{length_entries}
 -- ---- pairs
 
 module _ {X : Type 0} where
-  all_prop : (P : X → Type 0) → ((x : X) → IsProp (P x)) → (xs : List X) → IsProp (All P xs)
+  all_prop : (P : X → Type 0) → ((x : X) → IsProp (P x)) → (xs : List X) → IsProp (Each P xs)
   all_prop P h [] a b = refl
   all_prop P h (x ∷ xs) a b = λ i. (h x a.0 b.0 i, all_prop P h xs a.1 b.1 i)
 
@@ -33,11 +33,11 @@ module _ {X : Type 0} where
   pairwise_prop R h [] a b = refl
   pairwise_prop R h (x ∷ xs) a b = λ i. (all_prop (R x) (h x) xs a.0 b.0 i, pairwise_prop R h xs a.1 b.1 i)
 
-  pairwise_append : (R : X → X → Type 0) (xs ys : List X) → Pairwise R xs → Pairwise R ys → All (λ x. All (R x) ys) xs → Pairwise R (xs ++ ys)
+  pairwise_append : (R : X → X → Type 0) (xs ys : List X) → Pairwise R xs → Pairwise R ys → Each (λ x. Each (R x) ys) xs → Pairwise R (xs ++ ys)
   pairwise_append R [] ys a b c = b
   pairwise_append R (x ∷ xs) ys a b c = (All-append (R x) xs ys a.0 c.0, pairwise_append R xs ys a.1 b c.1)
 
-all_map : {X Y : Type 0} (P : Y → Type 0) (f : X → Y) (xs : List X) → All (λ x. P (f x)) xs → All P (map f xs)
+all_map : {X Y : Type 0} (P : Y → Type 0) (f : X → Y) (xs : List X) → Each (λ x. P (f x)) xs → Each P (map f xs)
 all_map P f [] a = tt
 all_map P f (x ∷ xs) a = (a.0, all_map P f xs a.1)
 
@@ -51,7 +51,7 @@ module _ {T : Type 0} where
   abbrev Rising : List (Placed T) → Type 0
   Rising es = Pairwise (λ a b. a.entry.count ≤ b.entry.count) es
 
-  level : (v : ℕ) (es : List (Placed T)) → All (λ e. e.entry.count ≡ v) es → Rising es
+  level : (v : ℕ) (es : List (Placed T)) → Each (λ e. e.entry.count ≡ v) es → Rising es
   level v [] a = tt
   level v (e ∷ es) a =
       let same = a.0 in
@@ -60,11 +60,11 @@ module _ {T : Type 0} where
   row_rises : (t : List (Place T)) (gs : List Group) → Rises (worth t) gs → Rising (row t gs)
   row_rises t [] r = tt
   row_rises t (g ∷ gs) r =
-      let own : All (λ e. e.entry.count ≡ worth t g) (row_of t g) = subst (All (λ e. e.entry.count ≡ worth t g)) (append-nil (row_of t g)) (row_counts (λ v. v ≡ worth t g) t (g ∷ []) (refl, tt)) in
-      let above : All (λ e. worth t g ≤ e.entry.count) (row t gs) =
+      let own : Each (λ e. e.entry.count ≡ worth t g) (row_of t g) = subst (Each (λ e. e.entry.count ≡ worth t g)) (append-nil (row_of t g)) (row_counts (λ v. v ≡ worth t g) t (g ∷ []) (refl, tt)) in
+      let above : Each (λ e. worth t g ≤ e.entry.count) (row t gs) =
       row_counts (λ v. worth t g ≤ v) t gs (All-weaker (λ h. worth t g < worth t h) (λ h. worth t g ≤ worth t h) (λ h l. omega arith) gs r.0) in
       pairwise_append _ (row_of t g) (row t gs) (level (worth t g) (row_of t g) own) (row_rises t gs r.1)
-      (All-weaker (λ e. e.entry.count ≡ worth t g) (λ e. All (λ f. e.entry.count ≤ f.entry.count) (row t gs)) (λ e same. All-weaker (λ f. worth t g ≤ f.entry.count) (λ f. e.entry.count ≤ f.entry.count) (λ f l. omega arith) (row t gs) above) (row_of t g) own)
+      (All-weaker (λ e. e.entry.count ≡ worth t g) (λ e. Each (λ f. e.entry.count ≤ f.entry.count) (row t gs)) (λ e same. All-weaker (λ f. worth t g ≤ f.entry.count) (λ f. e.entry.count ≤ f.entry.count) (λ f l. omega arith) (row t gs) above) (row_of t g) own)
 
   pub sorted : (s : Counters T) → Sorted (entries (placed s))
   sorted s =
@@ -77,17 +77,17 @@ module _ {T : Type 0} where
 
   -- ---- no count is above the total
 
-  counts_under : (s : Counters T) → All (λ e. e.count ≤ s.total) (entries (placed s))
+  counts_under : (s : Counters T) → Each (λ e. e.count ≤ s.total) (entries (placed s))
   counts_under s =
       ∥∥₁_elim s.sound (all_prop _ (λ e. le_prop) _) (λ st.
-      all_map (λ e. e.count ≤ s.total) (λ e. e.entry) (placed s) (subst (All (λ e. e.entry.count ≤ s.total)) (sym (row_sound _ _ _ _ st.gs st.fs st.sound)) (row_counts (λ v. v ≤ s.total) _ st.gs st.sound.under)))
+      all_map (λ e. e.count ≤ s.total) (λ e. e.entry) (placed s) (subst (Each (λ e. e.entry.count ≤ s.total)) (sym (row_sound _ _ _ _ st.gs st.fs st.sound)) (row_counts (λ v. v ≤ s.total) _ st.gs st.sound.under)))
 
   pub count_under : (s : Counters T) (i : ℕ) (e : Entry T) → Next (by_position (entries (placed s))) i e → e.count ≤ s.total
   count_under s i e at =
       let all = All-drop (λ e. e.count ≤ s.total) i (by_position (entries (placed s))) (all_reverse (λ e. e.count ≤ s.total) (entries (placed s)) (counts_under s)) in
-      (subst (All (λ e. e.count ≤ s.total)) at.rest all).0
+      (subst (Each (λ e. e.count ≤ s.total)) at.rest all).0
 
-  first_under : (most : ℕ) (row : List (Entry T)) → All (λ e. e.count ≤ most) row → first_count 0 row ≤ most
+  first_under : (most : ℕ) (row : List (Entry T)) → Each (λ e. e.count ≤ most) row → first_count 0 row ≤ most
   first_under most [] a = omega arith
   first_under most (e ∷ row) a = a.0
 

@@ -1,6 +1,6 @@
 -- A hit books its item, and leaves the other entries as they are.
 use Rattle.std.proofs.Common.{◌≡◌, ℕ, ◌+◌, ◌<◌, ◌≤◌, Bool, true, false, ltb, leb, List, [], ◌∷◌, length, Some, None, Option, sym, ap, ◌∙◌, subst, arith}
-use Rattle.std.specs.List.{AllByRecursion as All}
+use Rattle.std.specs.List.{AllByRecursion as Each}
 use Rattle.std.proofs.ByRecursion.{All-weaker}
 use Rattle.std.proofs.lemmas.Bool.{cond_both, cond-true, cond-false, leb-false, lt-ltb, le-ltb}
 use Rattle.items.specs.Sameness.{Equivalence}
@@ -12,12 +12,12 @@ use Rattle.rows.proofs.Sameness.{Absent, Found, found, absent_rest}
 
 module _ {Item : Type 0} (same : Item → Item → Bool) (x : Item) where
   -- An entry of x in front is the one that is found,
-  booked_first : (new : Entry Item) (others : List (Entry Item)) → same new.item x ≡ true → All (λ e. new.count < e.count) others →
+  booked_first : (new : Entry Item) (others : List (Entry Item)) → same new.item x ≡ true → Each (λ e. new.count < e.count) others →
       Booked same x new others (new ∷ others)
   booked_first new others t greater = record {
     its_entry = cond-true (same new.item x) _ _ t;
     others_stay = cond-true (same new.item x) _ _ t;
-    behind_equals = subst (All (λ e. new.count < e.count)) (sym (cond-true (same new.item x) _ _ t)) greater;
+    behind_equals = subst (Each (λ e. new.count < e.count)) (sym (cond-true (same new.item x) _ _ t)) greater;
   }
 
   -- and an entry of another item in front changes nothing.
@@ -26,7 +26,7 @@ module _ {Item : Type 0} (same : Item → Item → Bool) (x : Item) where
   booked_behind e new others row t b = record {
     its_entry = cond-false (same e.item x) _ _ t ∙ b.its_entry;
     others_stay = cond-false (same e.item x) _ _ t ∙ ap (λ es. e ∷ es) b.others_stay;
-    behind_equals = subst (All (λ f. new.count < f.count)) (sym (cond-false (same e.item x) _ _ t)) b.behind_equals;
+    behind_equals = subst (Each (λ f. new.count < f.count)) (sym (cond-false (same e.item x) _ _ t)) b.behind_equals;
   }
 
   pub booked_insert : (new : Entry Item) (row : List (Entry Item)) → same new.item x ≡ true → Absent same x row → Sorted row → Booked same x new row (insert new row)

@@ -1,6 +1,6 @@
 -- Frequent lists are true.
 use Rattle.std.proofs.Common.{◌≡◌, ℕ, ◌*◌, ◌<◌, ◌≤◌, Bool, true, false, leb, List, [], ◌∷◌, length, take, drop, Some, None, filter, Option, sym, refl, ap, subst, lt_of_mul-lt-mul_right, arith}
-use Rattle.std.specs.List.{AllByRecursion as All}
+use Rattle.std.specs.List.{AllByRecursion as Each}
 use Rattle.std.proofs.ByRecursion.{All-weaker, all_kept_by, kept_by_passes}
 use Rattle.std.proofs.lemmas.Bool.{cond_both, leb-true, leb-false, le-leb, lt-leb, ltb-true, lt-ltb, both_ways}
 use Rattle.rows.specs.declared.entry.Entry.{Entry}
@@ -20,13 +20,13 @@ module _ {Item : Type 0} (t : ℕ) where
   abbrev reaches : Entry Item → Bool
   reaches e = leb t e.count
 
-  none_reach : (es : List (Entry Item)) → All (λ e. e.count < t) es → filter reaches es ≡ []
+  none_reach : (es : List (Entry Item)) → Each (λ e. e.count < t) es → filter reaches es ≡ []
   none_reach [] a = refl
   none_reach (e ∷ es) a = rw (lt-leb t e.count a.0) (none_reach es a.1)
 
   -- Lines are the first of some entries, up to the last that reaches t.
   abbrev UpToLast : List (Entry Item) → List (Entry Item) → Type 0
-  UpToLast es lines = (lines ≡ take (length lines) es) × All (λ e. e.count < t) (drop (length lines) es)
+  UpToLast es lines = (lines ≡ take (length lines) es) × Each (λ e. e.count < t) (drop (length lines) es)
 
   -- Of entries in falling order, those that reach t are the first ones.
   reaching_first : (es : List (Entry Item)) → HighestFirst es → UpToLast es (filter reaches es)
@@ -37,13 +37,13 @@ module _ {Item : Type 0} (t : ℕ) where
       (λ _. (ap (λ lines. e ∷ lines) behind.0, behind.1))
       (λ fails.
       let low : e.count < t = leb-false t e.count fails in
-      let below : All (λ e. e.count < t) es = All-weaker _ _ (λ g l. omega arith) es f.0 in
+      let below : Each (λ e. e.count < t) es = All-weaker _ _ (λ g l. omega arith) es f.0 in
       subst (UpToLast (e ∷ es)) (sym (none_reach es below)) (refl, (low, below)))
 
 -- ---- what the marks mean
 
 module _ {Item : Type 0} {same : Item → Item → Bool} {m n : ℕ} {h : Item → ℕ} {row : List (Entry Item)} (k : Invariant same m h n row) (t : ℕ) where
-  sure_lines : All (λ e. sure t e ≡ true → t ≤ h e.item) (frequent t row)
+  sure_lines : Each (λ e. sure t e ≡ true → t ≤ h e.item) (frequent t row)
   sure_lines =
       all_kept_by (λ e. leb t e.count) (λ e. sure t e ≡ true → t ≤ h e.item) (by_position row)
       (All-weaker (Covered h) _ (λ e c s. omega (arith, leb-true t (lower e) s)) (by_position row) (covered_positions k))

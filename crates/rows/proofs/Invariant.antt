@@ -1,6 +1,6 @@
 -- What ties a row to the hits behind it, and that a hit keeps it.
 use Rattle.std.proofs.Common.{◌≡◌, ℕ, suc, ◌+◌, ◌<◌, ◌≤◌, Bool, true, false, List, ◌∷◌, length, sym, ap, ◌∙◌, inl, inr, arith}
-use Rattle.std.specs.List.{AllByRecursion as All}
+use Rattle.std.specs.List.{AllByRecursion as Each}
 use Rattle.std.proofs.ByRecursion.{All-weaker}
 use Rattle.std.proofs.lemmas.Bool.{cases_Bool}
 use Rattle.items.specs.Sameness.{Equivalence}
@@ -23,10 +23,10 @@ pub record Invariant {Item : Type 0} (same : Item → Item → Bool) (m : ℕ) (
   pub sorted : Sorted row
   pub apart : Apart same row
   pub room : length row ≤ m
-  pub error_below : All (λ e. e.error < e.count) row
+  pub error_below : Each (λ e. e.error < e.count) row
   pub adds_up : sum_of_counts row ≡ n
-  pub covers : All (Covered h) row
-  pub bounded : All (λ e. e.error ≤ outside m row) row
+  pub covers : Each (Covered h) row
+  pub bounded : Each (λ e. e.error ≤ outside m row) row
   pub left_out : (x : Item) → Absent same x row → h x ≤ outside m row
   pub alike : (x y : Item) → same x y ≡ true → h x ≡ h y
 
@@ -54,7 +54,7 @@ module _ {Item : Type 0} (same : Item → Item → Bool) (laws : Equivalence sam
       omega arith
 
   -- Entries of other items stay covered.
-  covers_others : (h : Item → ℕ) (x : Item) (row : List (Entry Item)) → Absent same x row → All (Covered h) row → All (Covered (plus same amount h x)) row
+  covers_others : (h : Item → ℕ) (x : Item) (row : List (Entry Item)) → Absent same x row → Each (Covered h) row → Each (Covered (plus same amount h x)) row
   covers_others h x row away c =
       all_both (λ e. same e.item x ≡ false) (Covered h) (Covered (plus same amount h x))
       (λ e t k.

@@ -1,6 +1,6 @@
 -- The outside figure: the greatest that every count of a full row reaches, and at most an m-th of all hits.
 use Rattle.std.proofs.Common.{◌≡◌, ℕ, ◌*◌, ◌<◌, ◌≤◌, ltb, List, [], ◌∷◌, length, sym, ◌∙◌, arith}
-use Rattle.std.specs.List.{AllByRecursion as All}
+use Rattle.std.specs.List.{AllByRecursion as Each}
 use Rattle.std.proofs.ByRecursion.{All-weaker}
 use Rattle.std.proofs.lemmas.Bool.{cond_both, cond-true, cond-false, lt-ltb, le-ltb, ltb-true, ltb-false}
 use Rattle.rows.specs.declared.entry.Entry.{Entry}
@@ -16,23 +16,23 @@ module _ {Item : Type 0} where
   pub outside_full : (m : ℕ) (row : List (Entry Item)) → m ≤ length row → outside m row ≡ first_count 0 row
   outside_full m row h = cond-false (ltb (length row) m) _ _ (le-ltb (length row) m h)
 
-  first_reaches : (c : ℕ) (row : List (Entry Item)) → 1 ≤ length row → All (λ e. c ≤ e.count) row → c ≤ first_count 0 row
+  first_reaches : (c : ℕ) (row : List (Entry Item)) → 1 ≤ length row → Each (λ e. c ≤ e.count) row → c ≤ first_count 0 row
   first_reaches c [] h a = omega arith
   first_reaches c (e ∷ row) h a = a.0
 
-  first_lowest : (row : List (Entry Item)) → Sorted row → All (λ e. first_count 0 row ≤ e.count) row
+  first_lowest : (row : List (Entry Item)) → Sorted row → Each (λ e. first_count 0 row ≤ e.count) row
   first_lowest [] s = tt
   first_lowest (e ∷ row) s = (omega arith, s.0)
 
   -- No count is below it,
-  pub outside_lowest : (m : ℕ) (row : List (Entry Item)) → Sorted row → All (λ e. outside m row ≤ e.count) row
+  pub outside_lowest : (m : ℕ) (row : List (Entry Item)) → Sorted row → Each (λ e. outside m row ≤ e.count) row
   outside_lowest m row s =
-      cond_both (ltb (length row) m) 0 (first_count 0 row) (λ o. All (λ e. o ≤ e.count) row)
+      cond_both (ltb (length row) m) 0 (first_count 0 row) (λ o. Each (λ e. o ≤ e.count) row)
       (λ _. All-weaker (λ e. first_count 0 row ≤ e.count) (λ e. 0 ≤ e.count) (λ e _. omega arith) row (first_lowest row s))
       (λ _. first_lowest row s)
 
   -- and no figure above it has that, unless there is room.
-  pub outside_greatest : (m c : ℕ) (row : List (Entry Item)) → 1 ≤ m → (length row < m → c ≡ 0) → All (λ e. c ≤ e.count) row → c ≤ outside m row
+  pub outside_greatest : (m c : ℕ) (row : List (Entry Item)) → 1 ≤ m → (length row < m → c ≡ 0) → Each (λ e. c ≤ e.count) row → c ≤ outside m row
   outside_greatest m c row pos free a =
       cond_both (ltb (length row) m) 0 (first_count 0 row) (λ o. c ≤ o)
       (λ t. omega (arith, free (ltb-true (length row) m t)))
@@ -50,7 +50,7 @@ module _ {Item : Type 0} where
       outside_greatest m (outside m row) (insert new rest) pos (λ free. outside_with_room m row (omega arith))
       (all_in (λ e. outside m row ≤ e.count) i (omega arith) low.1)
 
-  sum_at_least : (c : ℕ) (row : List (Entry Item)) → All (λ e. c ≤ e.count) row → c * length row ≤ sum_of_counts row
+  sum_at_least : (c : ℕ) (row : List (Entry Item)) → Each (λ e. c ≤ e.count) row → c * length row ≤ sum_of_counts row
   sum_at_least c [] a = omega arith
   sum_at_least c (e ∷ row) a =
       let ih : c * length row ≤ sum_of_counts row = sum_at_least c row a.1 in

@@ -1,6 +1,6 @@
 -- A row by position: highest count first, and the figures that stand after a position.
 use Rattle.std.proofs.Common.{◌≡◌, ℕ, zero, suc, ◌<◌, ◌≤◌, Bool, false, List, [], ◌∷◌, length, take, drop, Some, None, Option, subst, arith}
-use Rattle.std.specs.List.{AllByRecursion as All}
+use Rattle.std.specs.List.{AllByRecursion as Each}
 use Rattle.std.proofs.lemmas.List.{take-append-drop}
 use Rattle.std.proofs.ByRecursion.{All-drop, All-append}
 use Rattle.rows.specs.declared.entry.Entry.{Entry}
@@ -21,16 +21,16 @@ module _ {Item : Type 0} where
   pub positions_fall : (row : List (Entry Item)) → Sorted row → HighestFirst (by_position row)
   positions_fall row s = pairwise_reverse (λ a b. a.count ≤ b.count) row s
 
-  pub first_highest : (out : ℕ) (es : List (Entry Item)) → HighestFirst es → All (λ e. e.count ≤ first_count out es) es
+  pub first_highest : (out : ℕ) (es : List (Entry Item)) → HighestFirst es → Each (λ e. e.count ≤ first_count out es) es
   first_highest out [] f = tt
   first_highest out (e ∷ es) f = (omega arith, f.0)
 
-  first_at_least : (out : ℕ) (es : List (Entry Item)) → All (λ e. out ≤ e.count) es → out ≤ first_count out es
+  first_at_least : (out : ℕ) (es : List (Entry Item)) → Each (λ e. out ≤ e.count) es → out ≤ first_count out es
   first_at_least out [] a = omega arith
   first_at_least out (e ∷ es) a = a.0
 
   -- All of the first j lower figures reach a figure, said of the entries and said by position.
-  pub lower_by_position : (figure : ℕ) (es : List (Entry Item)) (j : ℕ) → j ≤ length es → All (λ e. figure ≤ lower e) (take j es) → (i : ℕ) → i < j →
+  pub lower_by_position : (figure : ℕ) (es : List (Entry Item)) (j : ℕ) → j ≤ length es → Each (λ e. figure ≤ lower e) (take j es) → (i : ℕ) → i < j →
       figure ≤ lower_of_first (drop i es)
   lower_by_position figure es zero l a i below = absurd (omega arith)
   lower_by_position figure [] (suc j) l a i below = absurd (omega arith)
@@ -38,13 +38,13 @@ module _ {Item : Type 0} where
   lower_by_position figure (e ∷ es) (suc j) l a (suc i) below = lower_by_position figure es j (omega arith) a.1 i (omega arith)
 
   pub lower_from_positions : (figure : ℕ) (es : List (Entry Item)) (j : ℕ) → ((i : ℕ) → i < j → figure ≤ lower_of_first (drop i es)) →
-      All (λ e. figure ≤ lower e) (take j es)
+      Each (λ e. figure ≤ lower e) (take j es)
   lower_from_positions figure es zero h = tt
   lower_from_positions figure [] (suc j) h = tt
   lower_from_positions figure (e ∷ es) (suc j) h = (h 0 (omega arith), lower_from_positions figure es j (λ i below. h (suc i) (omega arith)))
 
 module _ {Item : Type 0} {same : Item → Item → Bool} {m n : ℕ} {h : Item → ℕ} {row : List (Entry Item)} (k : Invariant same m h n row) where
-  pub covered_positions : All (Covered h) (by_position row)
+  pub covered_positions : Each (Covered h) (by_position row)
   covered_positions = all_reverse (Covered h) row k.covers
 
   outside_below_next : (j : ℕ) → outside m row ≤ figure_after m row j

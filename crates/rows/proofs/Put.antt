@@ -1,6 +1,6 @@
 -- One element put into a list, or taken out: what holds of all pairs, and what insertion into a row is.
 use Rattle.std.proofs.Common.{◌≡◌, ◌+◌, ◌≤◌, leb, List, [], ◌∷◌, refl, arith}
-use Rattle.std.specs.List.{AllByRecursion as All}
+use Rattle.std.specs.List.{AllByRecursion as Each}
 use Rattle.std.proofs.lemmas.Bool.{cond_both, leb-true, leb-false}
 use Rattle.std.proofs.ByRecursion.{All-weaker}
 pub use Rattle.items.proofs.Put.{Put, here, there, put_length, all_out, all_in}
@@ -14,12 +14,12 @@ module _ {X : Type 0} where
   pairwise_out R (there {f} p) a = ((all_out (R f) p a.0).1, pairwise_out R p a.1)
 
   -- For a relation that goes both ways: it holds of the element and all others,
-  pub others_out : (R : X → X → Type 0) → ((x y : X) → R x y → R y x) → {e : X} {rest row : List X} → Put e rest row → Pairwise R row → All (R e) rest
+  pub others_out : (R : X → X → Type 0) → ((x y : X) → R x y → R y x) → {e : X} {rest row : List X} → Put e rest row → Pairwise R row → Each (R e) rest
   others_out R flip here a = a.0
   others_out R flip {e} (there {f} p) a = (flip f e (all_out (R f) p a.0).0, others_out R flip p a.1)
 
   -- and an element of which it holds may be put in anywhere.
-  pub pairwise_in : (R : X → X → Type 0) → ((x y : X) → R x y → R y x) → {e : X} {rest row : List X} → Put e rest row → All (R e) rest → Pairwise R rest → Pairwise R row
+  pub pairwise_in : (R : X → X → Type 0) → ((x y : X) → R x y → R y x) → {e : X} {rest row : List X} → Put e rest row → Each (R e) rest → Pairwise R rest → Pairwise R row
   pairwise_in R flip here h a = (h, a)
   pairwise_in R flip {e} (there {f} p) h a = (all_in (R f) p (flip e f h.0) a.0, pairwise_in R flip p h.1 a.1)
 

@@ -1,6 +1,6 @@
 -- What an equivalence gives, and what looking an item up in a row tells.
 use Rattle.std.proofs.Common.{◌≡◌, Bool, true, false, cond, List, [], ◌∷◌, reverse, is_some, Some, None, Option, sym, refl, ◌∙◌}
-use Rattle.std.specs.List.{AllByRecursion as All}
+use Rattle.std.specs.List.{AllByRecursion as Each}
 use Rattle.std.proofs.ByRecursion.{All-weaker}
 use Rattle.std.proofs.lemmas.Bool.{both_ways, true≢false}
 use Rattle.items.specs.Sameness.{Equivalence}
@@ -27,7 +27,7 @@ equal_tests false false f g = refl
 
 -- No entry holds an item the same as x.
 abbrev pub Absent : {Item : Type 0} → (Item → Item → Bool) → Item → List (Entry Item) → Type 0
-Absent same x row = All (λ e. same e.item x ≡ false) row
+Absent same x row = Each (λ e. same e.item x ≡ false) row
 
 -- What looking x up tells: its entry, put into the rest, is the row; or it has none.
 abbrev pub Found : {Item : Type 0} → (Item → Item → Bool) → Item → Option (Entry Item) → List (Entry Item) → List (Entry Item) → Type 0

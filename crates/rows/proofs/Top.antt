@@ -1,6 +1,6 @@
 -- Top lists are true.
 use Rattle.std.proofs.Common.{◌≡◌, ℕ, zero, suc, ◌+◌, ◌-◌, ◌<◌, ◌≤◌, min, Bool, true, false, leb, List, [], ◌∷◌, length, take, drop, is_some, Some, None, Option, sym, refl, ap, ◌∙◌, subst, inl, inr, arith}
-use Rattle.std.specs.List.{AllByRecursion as All}
+use Rattle.std.specs.List.{AllByRecursion as Each}
 use Rattle.std.proofs.lemmas.List.{length-reverse, length-take-le, take_all}
 use Rattle.std.proofs.ByRecursion.{All-weaker, All-take}
 use Rattle.std.proofs.lemmas.Bool.{leb-true, le-leb, both_ways, and_parts, and_from, cond_both, cases_lt, true≢false, false≢true}
@@ -143,7 +143,7 @@ module _ {Item : Type 0} where
       let at : suc i - 1 ≡ i = omega arith in
       subst (λ p. figure_after m row (suc i) ≤ lower_of_first (drop p (by_position row))) at (h (suc i) (omega arith) (omega (arith, positions_length m row))))
 
-  never_rising : (h : Item → ℕ) (out k j : ℕ) (es : List (Entry Item)) → falling out k es ≡ true → HighestFirst es → All (Covered h) es →
+  never_rising : (h : Item → ℕ) (out k j : ℕ) (es : List (Entry Item)) → falling out k es ≡ true → HighestFirst es → Each (Covered h) es →
       Pairwise (λ a b. h b.item ≤ h a.item) (take k (take j es))
   never_rising h out zero j es t f c = tt
   never_rising h out (suc k) zero es t f c = tt

@@ -1,6 +1,6 @@
 -- Watched hits are true.
 use Rattle.std.proofs.Common.{◌≡◌, ℕ, Bool, true, false, cond, List, [], ◌∷◌, take, is_some, Some, None, Option, sym, refl, ap, ◌∙◌, subst, arith}
-use Rattle.std.specs.List.{AllByRecursion as All}
+use Rattle.std.specs.List.{AllByRecursion as Each}
 use Rattle.std.proofs.lemmas.Bool.{both_ways, false≢true}
 use Rattle.items.specs.Sameness.{Equivalence}
 use Rattle.rows.specs.declared.entry.Entry.{Entry}
@@ -18,7 +18,7 @@ module _ {Item : Type 0} (same : Item → Item → Bool) (laws : Equivalence sam
   -- What first_new tells on any lists.
   abbrev Told : List (Entry Item) → List (Entry Item) → Option Item → Type 0
   Told es others (Some x) = (form_at (entry_of same x es) ≡ Some x) × (listed same x others ≡ false)
-  Told es others None = All (λ e. listed same e.item others ≡ true) es
+  Told es others None = Each (λ e. listed same e.item others ≡ true) es
 
   told_behind : (e : Entry Item) (es others : List (Entry Item)) (o : Option Item) → listed same e.item others ≡ true → Told es others o → Told (e ∷ es) others o
   told_behind e es others (Some x) t k =
@@ -43,7 +43,7 @@ module _ {Item : Type 0} (same : Item → Item → Bool) (laws : Equivalence sam
   abbrev OneNew : List (Entry Item) → List (Entry Item) → Type 0
   OneNew es others = (x y : Item) → listed same x es ≡ true → listed same x others ≡ false → listed same y es ≡ true → listed same y others ≡ false → same x y ≡ true
 
-  all_listed : (es others : List (Entry Item)) → All (λ e. listed same e.item others ≡ true) es → (y : Item) →
+  all_listed : (es others : List (Entry Item)) → Each (λ e. listed same e.item others ≡ true) es → (y : Item) →
       (o : Option (Entry Item)) (rest : List (Entry Item)) → Found same y o rest es → is_some o ≡ true → listed same y others ≡ true
   all_listed es others a y (Some e) rest f t = listed_alike same laws e.item y others f.0 (all_out (λ e. listed same e.item others ≡ true) f.1 a).0
   all_listed es others a y None rest f t = absurd (false≢true t)

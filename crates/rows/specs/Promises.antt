@@ -1,6 +1,6 @@
 -- What the row machine promises: the theorem on rows, in named parts.
 use Rattle.std.specs.Prelude.{◌≡◌, ℕ, ◌+◌, ◌-◌, ◌*◌, ◌<◌, ◌≤◌, min, Bool, true, false, cond, List, [], ◌∷◌, ◌++◌, length, take, drop, is_some, Some, None, Option}
-use Rattle.std.specs.List.{AllByRecursion as All}
+use Rattle.std.specs.List.{AllByRecursion as Each}
 use Rattle.rows.specs.declared.entry.Entry.{Entry}
 use Rattle.rows.specs.Row.{entry, raised, entry_of, without, row_after, hits_of}
 use Rattle.rows.specs.Questions.{by_position, outside, lower, figure_after, bracket, threshold, frequent, sure, complete, top, guaranteed, ordered, listed, entered, left, share}
@@ -15,7 +15,7 @@ pub record Exactly (test : Bool) (Fact : Type 0) : Type 0 where
 -- Every earlier element stands in a relation to every later one.
 abbrev pub Pairwise : {X : Type 0} → (X → X → Type 0) → List X → Type 0
 Pairwise R [] = Unit {0}
-Pairwise R (x ∷ xs) = All (R x) xs × Pairwise R xs
+Pairwise R (x ∷ xs) = Each (R x) xs × Pairwise R xs
 
 -- j is the smallest number from low to high of which a fact holds.
 pub record SmallestFrom (low high : ℕ) (Fact : ℕ → Type 0) (j : ℕ) : Type 0 where
@@ -67,7 +67,7 @@ pub record SoundRow {Item : Type 0} (same : Item → Item → Bool) (m n : ℕ) 
   pub sorted : Sorted row
   pub apart : Apart same row
   pub room : length row ≤ m
-  pub error_below : All (λ e. e.error < e.count) row
+  pub error_below : Each (λ e. e.error < e.count) row
   pub adds_up : sum_of_counts row ≡ n
 
 -- ---- hits
@@ -76,7 +76,7 @@ pub record SoundRow {Item : Type 0} (same : Item → Item → Bool) (m n : ℕ) 
 pub record Booked {Item : Type 0} (same : Item → Item → Bool) (x : Item) (new : Entry Item) (others row : List (Entry Item)) : Type 0 where
   pub its_entry : entry_of same x row ≡ Some new
   pub others_stay : without same x row ≡ others
-  pub behind_equals : All (λ e. new.count < e.count) (behind_entry same x row)
+  pub behind_equals : Each (λ e. new.count < e.count) (behind_entry same x row)
 
 -- What a hit with x does to a row of at most m entries.
 pub record TrueHit {Item : Type 0} (same : Item → Item → Bool) (m : ℕ) (x : Item) (before after : List (Entry Item)) : Type 0 where
@@ -108,11 +108,11 @@ pub record LeastThreshold (p q n t : ℕ) : Type 0 where
 pub record TrueFrequentList {Item : Type 0} (same : Item → Item → Bool) (m t : ℕ) (hits : List Item) (row lines : List (Entry Item)) : Type 0 where
   -- The lines are the entries with a count of at least t, by position: the first ones, and none behind them.
   pub first_positions : lines ≡ take (length lines) (by_position row)
-  pub reaching : All (λ e. t ≤ e.count) lines
-  pub no_more : All (λ e. e.count < t) (drop (length lines) (by_position row))
+  pub reaching : Each (λ e. t ≤ e.count) lines
+  pub no_more : Each (λ e. e.count < t) (drop (length lines) (by_position row))
   -- A line is sure exactly if its lower figure is at least t; it then has at least t hits.
   pub sure_exactly : (e : Entry Item) → Exactly (sure t e) (t ≤ lower e)
-  pub sure_lines : All (λ e. sure t e ≡ true → t ≤ hits_of same hits e.item) lines
+  pub sure_lines : Each (λ e. sure t e ≡ true → t ≤ hits_of same hits e.item) lines
   -- The list is complete exactly if the outside figure is below t; it then omits no item with at least t hits.
   pub complete_exactly : Exactly (complete t m row) (outside m row < t)
   pub omits_none : complete t m row ≡ true → (x : Item) → t ≤ hits_of same hits x → listed same x lines ≡ true

@@ -1,7 +1,7 @@
 -- A counter is detached, may get a new item, and is attached at a new count: what the table stands for in between, and
 -- what it stands for and shows in the end.
 use Rattle.std.proofs.Common.{◌≡◌, ℕ, ◌+◌, ◌<◌, ◌≤◌, List, [], ◌∷◌, ◌++◌, length, Some, None, Option, sym, refl, ap, ◌∙◌, inl, ⊎_elim, append_assoc, le_refl, arith}
-use Rattle.std.specs.List.{flat_map, AllByRecursion as All}
+use Rattle.std.specs.List.{flat_map, AllByRecursion as Each}
 use Rattle.std.proofs.lemmas.List.{length-append, append-nil}
 use Rattle.std.proofs.ByRecursion.{All-append, All-weaker}
 use Rattle.std.proofs.lemmas.Bool.{cases_eq}
@@ -30,27 +30,27 @@ module _ {T : Type 0} where
     pub loose : Loose t (ls ++ rs) p
     pub after : a ≡ last_or None (ats ls)
     pub rising : Rises (worth t) (ls ++ rs)
-    pub low : All (λ g. worth t g < v) ls
-    pub high : All (λ g. v ≤ worth t g) rs
-    pub under : All (λ g. worth t g ≤ bound) (ls ++ rs)
+    pub low : Each (λ g. worth t g < v) ls
+    pub high : Each (λ g. v ≤ worth t g) rs
+    pub under : Each (λ g. worth t g ≤ bound) (ls ++ rs)
     pub most : v ≤ bound
     pub least : 1 ≤ v
-    pub positive : All (λ g. 1 ≤ worth t g) (ls ++ rs)
-    pub inside : All (λ g. Within used g.members) (ls ++ rs)
+    pub positive : Each (λ g. 1 ≤ worth t g) (ls ++ rs)
+    pub inside : Each (λ g. Within used g.members) (ls ++ rs)
     pub own : p < used
-    pub filled : All (λ g. 1 ≤ length g.members) (ls ++ rs)
+    pub filled : Each (λ g. 1 ≤ length g.members) (ls ++ rs)
     pub counters : tally (ls ++ rs) + 1 ≡ used
     pub buckets : length (ls ++ rs) + length fs ≡ length t
     pub fits : used ≤ length t
     pub seats : (q : ℕ) → q < used → (q ≡ p → ⊥) → Among q (ls ++ rs)
 
-  low_with : (t : List (Place T)) (b : ℕ) (ms : List ℕ) → All (λ g. worth t g ≤ value_in t b) (with_group b ms [])
+  low_with : (t : List (Place T)) (b : ℕ) (ms : List ℕ) → Each (λ g. worth t g ≤ value_in t b) (with_group b ms [])
   low_with t b [] = tt
   low_with t b (x ∷ ms) = (le_refl (value_in t b), tt)
 
   -- ---- detached
 
-  pub detached : (t t₁ : List (Place T)) (s s₁ : Lists) (p : ℕ) (a : Option ℕ) (used total bound v : ℕ) (ls : List Group) (b : ℕ) (xs zs : List ℕ) (rs : List Group) (fs : List ℕ) → Sound t s used total (ls ++ group b (xs ++ p ∷ zs) ∷ rs) fs → p < used → TakenOut t t₁ s s₁ p a → value_in t b < v → All (λ g. v ≤ worth t g) rs → v ≤ bound → total ≤ bound → Between t₁ s₁ used bound a p v (ls ++ with_group b (xs ++ zs) []) rs (with_free b (xs ++ zs) fs)
+  pub detached : (t t₁ : List (Place T)) (s s₁ : Lists) (p : ℕ) (a : Option ℕ) (used total bound v : ℕ) (ls : List Group) (b : ℕ) (xs zs : List ℕ) (rs : List Group) (fs : List ℕ) → Sound t s used total (ls ++ group b (xs ++ p ∷ zs) ∷ rs) fs → p < used → TakenOut t t₁ s s₁ p a → value_in t b < v → Each (λ g. v ≤ worth t g) rs → v ≤ bound → total ≤ bound → Between t₁ s₁ used bound a p v (ls ++ with_group b (xs ++ zs) []) rs (with_free b (xs ++ zs) fs)
   detached t t₁ s s₁ p a used total bound v ls b xs zs rs fs h lt k wv hi vb tb =
       let os = xs ++ p ∷ zs in
       let ms = xs ++ zs in
@@ -59,15 +59,15 @@ module _ {T : Type 0} where
       let e : ls' ++ rs ≡ ls ++ with_group b ms rs = parts ls b ms rs in
       let o = k.out ls rs b xs zs fs h.full in
       let q = k.quiet in
-      let same : (gs : List Group) → All (λ g. worth t₁ g ≡ worth t g) gs = all_every (λ g. worth t₁ g ≡ worth t g) (λ g. q.values g.at) in
-      let lo : All (λ g. worth t g < v) ls' =
+      let same : (gs : List Group) → Each (λ g. worth t₁ g ≡ worth t g) gs = all_every (λ g. worth t₁ g ≡ worth t g) (λ g. q.values g.at) in
+      let lo : Each (λ g. worth t g < v) ls' =
       All-append (λ g. worth t g < v) ls (with_group b ms [])
       (All-weaker (λ g. worth t g < w) (λ g. worth t g < v) (λ g i. omega arith) ls (rises_before (worth t) ls (group b os) rs h.rising))
       (All-weaker (λ g. worth t g ≤ w) (λ g. worth t g < v) (λ g i. omega arith) (with_group b ms []) (low_with t b ms)) in
       let ri : Rises (worth t) (ls' ++ rs) = rw e (rises_with (value_in t) ls b os ms rs h.rising) in
-      let un₀ : All (λ g. worth t g ≤ bound) (ls ++ group b os ∷ rs) = All-weaker (λ g. worth t g ≤ total) (λ g. worth t g ≤ bound) (λ g i. omega arith) (ls ++ group b os ∷ rs) h.under in
-      let un : All (λ g. worth t g ≤ bound) (ls' ++ rs) = rw e (all_with_it (λ g. worth t g ≤ bound) ls b os ms rs (all_mid (λ g. worth t g ≤ bound) ls (group b os) rs un₀) un₀) in
-      let po : All (λ g. 1 ≤ worth t g) (ls' ++ rs) = rw e (all_with_it (λ g. 1 ≤ worth t g) ls b os ms rs (all_mid (λ g. 1 ≤ worth t g) ls (group b os) rs h.positive) h.positive) in
+      let un₀ : Each (λ g. worth t g ≤ bound) (ls ++ group b os ∷ rs) = All-weaker (λ g. worth t g ≤ total) (λ g. worth t g ≤ bound) (λ g i. omega arith) (ls ++ group b os ∷ rs) h.under in
+      let un : Each (λ g. worth t g ≤ bound) (ls' ++ rs) = rw e (all_with_it (λ g. worth t g ≤ bound) ls b os ms rs (all_mid (λ g. worth t g ≤ bound) ls (group b os) rs un₀) un₀) in
+      let po : Each (λ g. 1 ≤ worth t g) (ls' ++ rs) = rw e (all_with_it (λ g. 1 ≤ worth t g) ls b os ms rs (all_mid (λ g. 1 ≤ worth t g) ls (group b os) rs h.positive) h.positive) in
       let wo : Within used os = all_mid (λ g. Within used g.members) ls (group b os) rs h.inside in
       let wm : Within used ms = all_out (λ x. x < used) xs p zs wo in
       let lo₁ = length-append xs (p ∷ zs) in
@@ -149,7 +149,7 @@ module _ {T : Type 0} where
     relabelled s used bound a v ls rs fs h =
         let t₁ = edit (labelled x err) p t in
         let z : length t₁ ≡ length t = length_edit (labelled x err) p t in
-        let same : (gs : List Group) → All (λ g. worth t₁ g ≡ worth t g) gs = all_every (λ g. worth t₁ g ≡ worth t g) (λ g. values_labelled g.at) in
+        let same : (gs : List Group) → Each (λ g. worth t₁ g ≡ worth t g) gs = all_every (λ g. worth t₁ g ≡ worth t g) (λ g. values_labelled g.at) in
         let n = h.buckets in
         let f = h.fits in
         record {
@@ -179,7 +179,7 @@ module _ {T : Type 0} where
         let e : placed_in (edit (labelled x err) p t) v c ≡ placed_in t v c = read_other (placed_of c v) [] (labelled x err) t p c o.0 in
         let r = members_labelled v ms o.1 in cc
 
-    pub row_labelled : (gs : List Group) → All (λ g. Off p g.members) gs → row (edit (labelled x err) p t) gs ≡ row t gs
+    pub row_labelled : (gs : List Group) → Each (λ g. Off p g.members) gs → row (edit (labelled x err) p t) gs ≡ row t gs
     row_labelled [] o = refl
     row_labelled (g ∷ gs) o =
         let t₁ = edit (labelled x err) p t in
@@ -195,22 +195,22 @@ module _ {T : Type 0} where
     pub shows : (x : T) (err : ℕ) → ((u : ℕ) → placed_in t u p ≡ put p x u err ∷ []) → row t₂ gs ≡ insert (put p x v err) (row t rest)
 
   module _ (t t₂ : List (Place T)) (s s₂ : Lists) (used bound : ℕ) (a : Option ℕ) (p v : ℕ) where
-    agree_off : {b u : ℕ} → Revalued t t₂ b u → (gs : List Group) → Off b (ats gs) → All (λ h. worth t₂ h ≡ worth t h) gs
+    agree_off : {b u : ℕ} → Revalued t t₂ b u → (gs : List Group) → Off b (ats gs) → Each (λ h. worth t₂ h ≡ worth t h) gs
     agree_off r [] o = tt
     agree_off r (g ∷ gs) o = (r.other g.at o.0, agree_off r gs o.1)
 
     -- In a fresh bucket.
-    attach_fresh : (ls rs : List Group) (b : ℕ) (fs : List ℕ) → Between t s used bound a p v ls rs (b ∷ fs) → Differs t v rs → All (λ g. v < worth t g) rs → HungUp t t₂ s s₂ a v p → Attached t t₂ s₂ used bound p v (ls ++ rs)
+    attach_fresh : (ls rs : List Group) (b : ℕ) (fs : List ℕ) → Between t s used bound a p v ls rs (b ∷ fs) → Differs t v rs → Each (λ g. v < worth t g) rs → HungUp t t₂ s s₂ a v p → Attached t t₂ s₂ used bound p v (ls ++ rs)
     attach_fresh ls rs b fs h d hi k =
         let g : Group = group b (p ∷ []) in
         let o = k.fresh ls rs b fs h.full h.loose h.after d in
         let off : Off b (ats (ls ++ rs)) = cross_first (ats (ls ++ rs)) b fs h.full.apart in
-        let same : All (λ i. worth t₂ i ≡ worth t i) (ls ++ rs) = agree_off o.1 (ls ++ rs) off in
+        let same : Each (λ i. worth t₂ i ≡ worth t i) (ls ++ rs) = agree_off o.1 (ls ++ rs) off in
         let sl = all_left (λ i. worth t₂ i ≡ worth t i) ls rs same in
         let sr = all_right (λ i. worth t₂ i ≡ worth t i) ls rs same in
         let here : worth t₂ g ≡ v = o.1.here in
-        let lo₂ : All (λ i. worth t₂ i < v) ls = all_agree (λ u. u < v) (worth t) (worth t₂) ls sl h.low in
-        let hi₂ : All (λ i. v < worth t₂ i) rs = all_agree (λ u. v < u) (worth t) (worth t₂) rs sr hi in
+        let lo₂ : Each (λ i. worth t₂ i < v) ls = all_agree (λ u. u < v) (worth t) (worth t₂) ls sl h.low in
+        let hi₂ : Each (λ i. v < worth t₂ i) rs = all_agree (λ u. v < u) (worth t) (worth t₂) rs sr hi in
         let un₂ = all_agree (λ u. u ≤ bound) (worth t) (worth t₂) (ls ++ rs) same h.under in
         let mo = h.most in
         let le = h.least in
@@ -256,7 +256,7 @@ module _ {T : Type 0} where
         let g : Group = group b ms in
         let g' : Group = group b (ms ++ p ∷ []) in
         let o = k.same ls rs b ms fs h.full h.loose h.after ev in
-        let same : (gs : List Group) → All (λ i. worth t₂ i ≡ worth t i) gs = all_every (λ i. worth t₂ i ≡ worth t i) (λ i. o.1 i.at) in
+        let same : (gs : List Group) → Each (λ i. worth t₂ i ≡ worth t i) gs = all_every (λ i. worth t₂ i ≡ worth t i) (λ i. o.1 i.at) in
         let ri = rises_agree (worth t) (worth t₂) (ls ++ g ∷ rs) (same (ls ++ g ∷ rs)) h.rising in
         let un₂ = all_agree (λ u. u ≤ bound) (worth t) (worth t₂) (ls ++ g ∷ rs) (same (ls ++ g ∷ rs)) h.under in
         let po = all_agree (λ u. 1 ≤ u) (worth t) (worth t₂) (ls ++ g ∷ rs) (same (ls ++ g ∷ rs)) h.positive in
@@ -269,7 +269,7 @@ module _ {T : Type 0} where
         let n = h.buckets in
         let z = k.size in
         let m = h.fits in
-        let aft : All (λ i. worth t g < worth t i) rs = (rises_right (worth t) ls (g ∷ rs) h.rising).0 in
+        let aft : Each (λ i. worth t g < worth t i) rs = (rises_right (worth t) ls (g ∷ rs) h.rising).0 in
         record {
           gs = ls ++ g' ∷ rs;
           fs = fs;
@@ -303,15 +303,15 @@ module _ {T : Type 0} where
               let lo₁ = All-weaker (λ i. worth t i < v) (λ i. worth t i ≤ v) (λ i q. omega arith) ls h.low in
               let lo₂ = row_counts (λ u. u ≤ v) t ls lo₁ in
               let gv : value_in t b ≤ v = omega arith in
-              let lo₃ : All (λ y. y.entry.count ≤ v) (m ++ []) = row_counts (λ u. u ≤ v) t (g ∷ []) (gv, tt) in
-              let lo₄ : All (λ y. y.entry.count ≤ v) m = rw (← append-nil m) lo₃ in
-              let hi₁ : All (λ i. v < worth t i) rs = All-weaker (λ i. worth t g < worth t i) (λ i. v < worth t i) (λ i q. omega arith) rs aft in
+              let lo₃ : Each (λ y. y.entry.count ≤ v) (m ++ []) = row_counts (λ u. u ≤ v) t (g ∷ []) (gv, tt) in
+              let lo₄ : Each (λ y. y.entry.count ≤ v) m = rw (← append-nil m) lo₃ in
+              let hi₁ : Each (λ i. v < worth t i) rs = All-weaker (λ i. worth t g < worth t i) (λ i. v < worth t i) (λ i q. omega arith) rs aft in
               let q = insert_between e (row t ls ++ m) (row t rs) (All-append (λ y. y.entry.count ≤ v) (row t ls) m lo₂ lo₄) (row_counts (λ u. v < u) t rs hi₁) in
               e₁ ∙ e₂ ∙ ap (λ (y : List (Placed T)). row t ls ++ (y ++ row t rs)) e₄ ∙ e₆ ∙ sym q ∙ ap (insert e) (sym e₅ ∙ sym e₃);
         }
 
     -- While a counter is detached there are more places than buckets in use, so a free bucket stands by.
-    attach_free : (ls rs : List Group) (fs : List ℕ) → Between t s used bound a p v ls rs fs → Differs t v rs → All (λ g. v < worth t g) rs → HungUp t t₂ s s₂ a v p → Attached t t₂ s₂ used bound p v (ls ++ rs)
+    attach_free : (ls rs : List Group) (fs : List ℕ) → Between t s used bound a p v ls rs fs → Differs t v rs → Each (λ g. v < worth t g) rs → HungUp t t₂ s s₂ a v p → Attached t t₂ s₂ used bound p v (ls ++ rs)
     attach_free ls rs [] h d hi k =
         let l = length_tally (ls ++ rs) h.filled in
         let c = h.counters in
@@ -325,6 +325,6 @@ module _ {T : Type 0} where
         ⊎_elim (λ e. attach_same ls g.at g.members rs fs h e k)
         (λ ne.
         let hi : v < worth t g = omega (arith, h.high.0) in
-        let aft : All (λ i. worth t g < worth t i) rs = (rises_right (worth t) ls (g ∷ rs) h.rising).0 in
+        let aft : Each (λ i. worth t g < worth t i) rs = (rises_right (worth t) ls (g ∷ rs) h.rising).0 in
         attach_free ls (g ∷ rs) fs h ne (hi, All-weaker (λ i. worth t g < worth t i) (λ i. v < worth t i) (λ i q. omega arith) rs aft) k)
         (cases_eq (worth t g) v)

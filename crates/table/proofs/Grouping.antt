@@ -1,6 +1,6 @@
 -- The groups of a table after each edit: a counter out of its bucket, a counter into one, a bucket out of use, one into use.
 use Rattle.std.proofs.Common.{◌≡◌, ℕ, ◌<◌, ◌⊎◌, List, [], ◌∷◌, ◌++◌, length, Some, None, Option, sym, refl, ap, ◌∙◌, inl, inr, append-nil}
-use Rattle.std.specs.List.{AllByRecursion as All}
+use Rattle.std.specs.List.{AllByRecursion as Each}
 use Rattle.std.proofs.ByRecursion.{All-append, All-weaker}
 use Rattle.std.proofs.lemmas.List.{map-append}
 use Rattle.links.specs.declared.ends.Ends.{Ends}
@@ -20,10 +20,10 @@ use Rattle.table.specs.Moves.{pulled_from, hung_in, added_in}
 use Rattle.table.proofs.Lawful.{counter_lawful, bucket_lawful}
 
 -- Counters that name different buckets are different.
-pub cross_by : (f : ℕ → ℕ) (a b : ℕ) → (a ≡ b → ⊥) → (xs ys : List ℕ) → All (λ x. f x ≡ a) xs → All (λ y. f y ≡ b) ys → Cross xs ys
+pub cross_by : (f : ℕ → ℕ) (a b : ℕ) → (a ≡ b → ⊥) → (xs ys : List ℕ) → Each (λ x. f x ≡ a) xs → Each (λ y. f y ≡ b) ys → Cross xs ys
 cross_by f a b n xs ys p q = All-weaker (λ x. f x ≡ a) (λ x. Off x ys) (λ x e. All-weaker (λ y. f y ≡ b) (λ y. y ≡ x → ⊥) (λ y e' h. n (sym e ∙ ap f (sym h) ∙ e')) ys q) xs p
 
-all_same : (f g : ℕ → ℕ) (a : ℕ) (xs : List ℕ) → Same f g xs → All (λ c. f c ≡ a) xs → All (λ c. g c ≡ a) xs
+all_same : (f g : ℕ → ℕ) (a : ℕ) (xs : List ℕ) → Same f g xs → Each (λ c. f c ≡ a) xs → Each (λ c. g c ≡ a) xs
 all_same f g a [] s h = tt
 all_same f g a (x ∷ xs) s h = (s.0 ∙ h.0, all_same f g a xs s.1 h.1)
 
@@ -62,7 +62,7 @@ module _ {T : Type 0} where
         }
 
   -- All groups stay under an edit that leaves counters and ends.
-  pub holds_all : (t : List (Place T)) (l : Option ℕ) (e : Place T → Place T) → KeepsCounter e → KeepsEnds e → (gs : List Group) → All (Holds t) gs → All (Holds (edit_at l e t)) gs
+  pub holds_all : (t : List (Place T)) (l : Option ℕ) (e : Place T → Place T) → KeepsCounter e → KeepsEnds e → (gs : List Group) → Each (Holds t) gs → Each (Holds (edit_at l e t)) gs
   holds_all t l e k m gs h = All-weaker (Holds t) (Holds (edit_at l e t)) (λ g x. holds_edit t g l e (inr k) (inr m) x) gs h
 
 -- ---- the groups of a table, one of them apart
@@ -76,7 +76,7 @@ apart_mid [] g rs a = (tt, a.0)
 apart_mid (h ∷ ls) g rs a =
     let r = apart_mid ls g rs a.1 in (((λ e. off_mid h.at ls g rs a.0 (sym e)), r.0), r.1)
 
-pub within_mid : (m : ℕ) (ls : List Group) (g : Group) (rs : List Group) → All (λ x. x < m) (ats (ls ++ g ∷ rs)) → g.at < m
+pub within_mid : (m : ℕ) (ls : List Group) (g : Group) (rs : List Group) → Each (λ x. x < m) (ats (ls ++ g ∷ rs)) → g.at < m
 within_mid m [] g rs w = w.0
 within_mid m (h ∷ ls) g rs w = within_mid m ls g rs w.1
 
@@ -84,12 +84,12 @@ pub ats_swap : (ls : List Group) (g h : Group) (rs : List Group) → h.at ≡ g.
 ats_swap [] g h rs e = ap (λ (x : ℕ). x ∷ ats rs) e
 ats_swap (x ∷ ls) g h rs e = ap (λ (r : List ℕ). x.at ∷ r) (ats_swap ls g h rs e)
 
-each_other : (P Q : Group → Type 0) (b : ℕ) (gs : List Group) → Off b (ats gs) → ((h : Group) → (h.at ≡ b → ⊥) → P h → Q h) → All P gs → All Q gs
+each_other : (P Q : Group → Type 0) (b : ℕ) (gs : List Group) → Off b (ats gs) → ((h : Group) → (h.at ≡ b → ⊥) → P h → Q h) → Each P gs → Each Q gs
 each_other P Q b [] o k a = tt
 each_other P Q b (h ∷ gs) o k a = (k h o.0 a.0, each_other P Q b gs o.1 k a.1)
 
 -- The groups other than one stay, and that one is changed.
-groups_step : (P Q : Group → Type 0) (ls : List Group) (g g' : Group) (rs : List Group) → Apart (ats (ls ++ g ∷ rs)) → ((h : Group) → (h.at ≡ g.at → ⊥) → P h → Q h) → Q g' → All P (ls ++ g ∷ rs) → All Q (ls ++ g' ∷ rs)
+groups_step : (P Q : Group → Type 0) (ls : List Group) (g g' : Group) (rs : List Group) → Apart (ats (ls ++ g ∷ rs)) → ((h : Group) → (h.at ≡ g.at → ⊥) → P h → Q h) → Q g' → Each P (ls ++ g ∷ rs) → Each Q (ls ++ g' ∷ rs)
 groups_step P Q ls g g' rs a k q h =
     let o = apart_mid ls g rs a in
     All-append Q ls (g' ∷ rs) (each_other P Q g.at ls o.0 k (all_left P ls (g ∷ rs) h)) (q, each_other P Q g.at rs o.1 k (all_right P ls (g ∷ rs) h).1)
@@ -265,14 +265,14 @@ hang_full t s ls rs b c xs fs h k =
 
 module _ {T : Type 0} where
   -- The groups stay where a bucket goes out of a list or comes into one.
-  holds_unlinking : (t : List (Place T)) (b : ℕ) (gs : List Group) → All (Holds t) gs → All (Holds (unlinking bucket_links b t)) gs
+  holds_unlinking : (t : List (Place T)) (b : ℕ) (gs : List Group) → Each (Holds t) gs → Each (Holds (unlinking bucket_links b t)) gs
   holds_unlinking t b gs h =
       let n = next_in bucket_links t b in
       let p = prev_in bucket_links t b in
       holds_all (edit_at p (bucket_links.put_next n) t) n (bucket_links.put_prev p) (record { next = λ x. refl; prev = λ x. refl; owner = λ x. refl }) (λ x. refl) gs
       (holds_all t p (bucket_links.put_next n) (record { next = λ x. refl; prev = λ x. refl; owner = λ x. refl }) (λ x. refl) gs h)
 
-  holds_linking : (t : List (Place T)) (a z : Option ℕ) (b : ℕ) (gs : List Group) → All (Holds t) gs → All (Holds (linking bucket_links a z b t)) gs
+  holds_linking : (t : List (Place T)) (a z : Option ℕ) (b : ℕ) (gs : List Group) → Each (Holds t) gs → Each (Holds (linking bucket_links a z b t)) gs
   holds_linking t a z b gs h =
       let t₁ = edit_at a (bucket_links.put_next (Some b)) t in
       let t₂ = edit_at z (bucket_links.put_prev (Some b)) t₁ in
@@ -353,7 +353,7 @@ module _ {T : Type 0} where
       let b₁ = listed_in bucket_links bucket_lawful t s.main (ats ls) b (ats rs) bs o' w in
       let kept : (ys : List ℕ) → Chained bucket_links t₁ ys → Chained bucket_links t₂ ys = λ ys k. chained_kept bucket_links t₁ ys (Some b) (emptied v) (λ x. refl) (λ x. refl) k in
       let b₂ : Listed bucket_links t₂ ws (ends_in a z b s.main) = record { list = kept ws b₁.list; begins = b₁.begins; stops = b₁.stops } in
-      let h₂ : All (Holds t₂) gs =
+      let h₂ : Each (Holds t₂) gs =
       each_other (Holds t₁) (Holds t₂) b gs o
       (λ i ne hi. holds_edit t₁ i (Some b) (emptied v) (inr (record { next = λ x. refl; prev = λ x. refl; owner = λ x. refl })) (inl (λ q. ne (some_inj i.at b q))) hi)
       (holds_linking t a z b gs h.groups) in

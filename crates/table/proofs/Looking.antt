@@ -1,6 +1,6 @@
 -- What is read off the links of a sound table, without a walk, is what the placed row says.
 use Rattle.std.proofs.Common.{◌≡◌, ℕ, ◌-◌, ◌<◌, ◌≤◌, List, [], ◌∷◌, ◌++◌, length, Some, None, Option, sym, refl, ap, ◌∙◌, not-suc-le-zero, arith}
-use Rattle.std.specs.List.{flat_map, AllByRecursion as All}
+use Rattle.std.specs.List.{flat_map, AllByRecursion as Each}
 use Rattle.std.proofs.lemmas.List.{length-append, length-map}
 use Rattle.std.proofs.ByRecursion.{All-weaker}
 use Rattle.links.specs.Chains.{Off, Apart, Within, first_or, last_or}
@@ -36,20 +36,20 @@ module _ {T : Type 0} (t : List (Place T)) where
       let r = members_are v ms w.1 rest in
       ap (λ (l : List (Placed T)). places ((l ++ flat_map (placed_in t v) ms) ++ rest)) e ∙ ap (λ (l : List ℕ). c ∷ l) r
 
-  pub row_crowd : (gs : List Group) → All (λ g. Within (length t) g.members) gs → places (row t gs) ≡ crowd gs
+  pub row_crowd : (gs : List Group) → Each (λ g. Within (length t) g.members) gs → places (row t gs) ≡ crowd gs
   row_crowd [] w = refl
   row_crowd (g ∷ gs) w = members_are (worth t g) g.members w.0 (row t gs) ∙ ap (λ (l : List ℕ). g.members ++ l) (row_crowd gs w.1)
 
   -- ---- no counter hangs twice
 
-  off_crowd : (p b : ℕ) → owner_in t p ≡ b → (gs : List Group) → Off b (ats gs) → All (Holds t) gs → Off p (crowd gs)
+  off_crowd : (p b : ℕ) → owner_in t p ≡ b → (gs : List Group) → Off b (ats gs) → Each (Holds t) gs → Off p (crowd gs)
   off_crowd p b e [] o h = tt
   off_crowd p b e (g ∷ gs) o h =
       off_join p g.members (crowd gs)
       (cross_first g.members p [] (cross_by (owner_in t) g.at b o.0 g.members (p ∷ []) h.0.mine (e, tt)))
       (off_crowd p b e gs o.1 h.1)
 
-  pub crowd_apart : (gs : List Group) → Apart (ats gs) → All (Holds t) gs → Apart (crowd gs)
+  pub crowd_apart : (gs : List Group) → Apart (ats gs) → Each (Holds t) gs → Apart (crowd gs)
   crowd_apart [] a h = tt
   crowd_apart (g ∷ gs) a h =
       apart_join g.members (crowd gs) h.0.list.list.apart (crowd_apart gs a.1 h.1)
@@ -61,13 +61,13 @@ module _ {T : Type 0} (t : List (Place T)) where
   last_any o [] h = absurd (not-suc-le-zero h)
   last_any o (x ∷ ms) h = refl
 
-  pub last_crowd : (o : Option ℕ) (gs : List Group) → All (Holds t) gs → All (λ g. 1 ≤ length g.members) gs → onto (λ b. (members_in t b).last) (last_or o (ats gs)) ≡ last_or (onto (λ b. (members_in t b).last) o) (crowd gs)
+  pub last_crowd : (o : Option ℕ) (gs : List Group) → Each (Holds t) gs → Each (λ g. 1 ≤ length g.members) gs → onto (λ b. (members_in t b).last) (last_or o (ats gs)) ≡ last_or (onto (λ b. (members_in t b).last) o) (crowd gs)
   last_crowd o [] h f = refl
   last_crowd o (g ∷ gs) h f =
       let p = onto (λ b. (members_in t b).last) o in
       last_crowd (Some g.at) gs h.1 f.1 ∙ ap (λ (l : Option ℕ). last_or l (crowd gs)) (h.0.list.stops ∙ last_any p g.members f.0) ∙ sym (last_or_append p g.members (crowd gs))
 
-  first_crowd : (gs : List Group) → All (Holds t) gs → All (λ g. 1 ≤ length g.members) gs → onto (λ b. (members_in t b).first) (first_or (ats gs) None) ≡ first_or (crowd gs) None
+  first_crowd : (gs : List Group) → Each (Holds t) gs → Each (λ g. 1 ≤ length g.members) gs → onto (λ b. (members_in t b).first) (first_or (ats gs) None) ≡ first_or (crowd gs) None
   first_crowd [] h f = refl
   first_crowd (g ∷ gs) h f = h.0.list.begins ∙ filled g.members f.0
     where
@@ -108,10 +108,10 @@ module _ {T : Type 0} (t : List (Place T)) (s : Lists) (used total : ℕ) (gs : 
   highest_is = ap (onto (λ b. (members_in t b).last)) h.full.buckets.stops ∙ last_crowd t None gs h.full.groups h.filled ∙ nth_last (crowd gs)
 
   -- A place that has no counter in use.
-  unused_off : (c : ℕ) → used ≤ c → All (λ g. Off c g.members) gs
+  unused_off : (c : ℕ) → used ≤ c → Each (λ g. Off c g.members) gs
   unused_off c le = All-weaker (λ g. Within used g.members) (λ g. Off c g.members) (λ g w. All-weaker (λ x. x < used) (λ x. x ≡ c → ⊥) (λ x i e. omega arith) g.members w) gs h.inside
 
-  crowd_off : (c : ℕ) (ks : List Group) → All (λ g. Off c g.members) ks → Off c (crowd ks)
+  crowd_off : (c : ℕ) (ks : List Group) → Each (λ g. Off c g.members) ks → Off c (crowd ks)
   crowd_off c [] o = tt
   crowd_off c (g ∷ ks) o = off_join c g.members (crowd ks) o.0 (crowd_off c ks o.1)
 

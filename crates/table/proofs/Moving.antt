@@ -1,6 +1,6 @@
 -- The moves of a summary: a counter counts one more, a newcomer takes an unused counter, a newcomer takes the first one over.
 use Rattle.std.proofs.Common.{◌≡◌, ℕ, zero, suc, ◌+◌, ◌<◌, ◌≤◌, List, [], ◌∷◌, ◌++◌, length, Some, None, Option, sym, refl, ap, ◌∙◌, subst, not-suc-le-zero, arith}
-use Rattle.std.specs.List.{AllByRecursion as All}
+use Rattle.std.specs.List.{AllByRecursion as Each}
 use Rattle.std.proofs.lemmas.List.{length-append}
 use Rattle.std.proofs.ByRecursion.{All-weaker}
 use Rattle.links.specs.declared.ends.Ends.{Ends}
@@ -30,7 +30,7 @@ pub record Lowest (gs : List Group) (p : ℕ) : Type 0 where
   pub rs : List Group
   pub is : gs ≡ group b (p ∷ zs) ∷ rs
 
-lowest_seat : (gs : List Group) (p : ℕ) → All (λ g. 1 ≤ length g.members) gs → nth (crowd gs) 0 ≡ Some p → Lowest gs p
+lowest_seat : (gs : List Group) (p : ℕ) → Each (λ g. 1 ≤ length g.members) gs → nth (crowd gs) 0 ≡ Some p → Lowest gs p
 lowest_seat [] p f e = absurd (some_none p (sym e))
 lowest_seat (g ∷ gs) p f e = go g.members refl f.0 e
   where

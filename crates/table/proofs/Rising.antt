@@ -1,6 +1,6 @@
 -- Lists of groups: what rises along them, how many counters they have, and which.
 use Rattle.std.proofs.Common.{◌≡◌, ℕ, ◌+◌, ◌<◌, ◌≤◌, List, [], ◌∷◌, ◌++◌, length, sym, ap, inl, inr, append_assoc, arith}
-use Rattle.std.specs.List.{AllByRecursion as All}
+use Rattle.std.specs.List.{AllByRecursion as Each}
 use Rattle.std.proofs.lemmas.List.{length-append, append-nil}
 use Rattle.links.proofs.Alls.{all_mid, all_out, all_in}
 use Rattle.table.specs.Groups.{Group, group, with_group, with_free}
@@ -11,11 +11,11 @@ module _ {A : Type 0} where
   rises_out f [] g rs h = h.1
   rises_out f (x ∷ ls) g rs h = (all_out (λ y. f x < f y) ls g rs h.0, rises_out f ls g rs h.1)
 
-  pub rises_in : (f : A → ℕ) (ls : List A) (g : A) (rs : List A) → Rises f (ls ++ rs) → All (λ x. f x < f g) ls → All (λ x. f g < f x) rs → Rises f (ls ++ g ∷ rs)
+  pub rises_in : (f : A → ℕ) (ls : List A) (g : A) (rs : List A) → Rises f (ls ++ rs) → Each (λ x. f x < f g) ls → Each (λ x. f g < f x) rs → Rises f (ls ++ g ∷ rs)
   rises_in f [] g rs h lo hi = (hi, h)
   rises_in f (x ∷ ls) g rs h lo hi = (all_in (λ y. f x < f y) ls g rs lo.0 h.0, rises_in f ls g rs h.1 lo.1 hi)
 
-  pub rises_before : (f : A → ℕ) (ls : List A) (g : A) (rs : List A) → Rises f (ls ++ g ∷ rs) → All (λ x. f x < f g) ls
+  pub rises_before : (f : A → ℕ) (ls : List A) (g : A) (rs : List A) → Rises f (ls ++ g ∷ rs) → Each (λ x. f x < f g) ls
   rises_before f [] g rs h = tt
   rises_before f (x ∷ ls) g rs h = (all_mid (λ y. f x < f y) ls g rs h.0, rises_before f ls g rs h.1)
 
@@ -24,14 +24,14 @@ module _ {A : Type 0} where
   rises_right f (x ∷ ls) rs h = rises_right f ls rs h.1
 
   -- f' is f on the list.
-  pub all_agree : (Q : ℕ → Type 0) (f f' : A → ℕ) (xs : List A) → All (λ x. f' x ≡ f x) xs → All (λ x. Q (f x)) xs → All (λ x. Q (f' x)) xs
+  pub all_agree : (Q : ℕ → Type 0) (f f' : A → ℕ) (xs : List A) → Each (λ x. f' x ≡ f x) xs → Each (λ x. Q (f x)) xs → Each (λ x. Q (f' x)) xs
   all_agree Q f f' [] e h = tt
   all_agree Q f f' (x ∷ xs) e h = (rw e.0 h.0, all_agree Q f f' xs e.1 h.1)
 
-  pub rises_agree : (f f' : A → ℕ) (xs : List A) → All (λ x. f' x ≡ f x) xs → Rises f xs → Rises f' xs
+  pub rises_agree : (f f' : A → ℕ) (xs : List A) → Each (λ x. f' x ≡ f x) xs → Rises f xs → Rises f' xs
   rises_agree f f' [] e h = tt
   rises_agree f f' (x ∷ xs) e h =
-      let k : All (λ y. f x < f' y) xs = all_agree (λ n. f x < n) f f' xs e.1 h.0 in
+      let k : Each (λ y. f x < f' y) xs = all_agree (λ n. f x < n) f f' xs e.1 h.0 in
       (rw e.0 k, rises_agree f f' xs e.1 h.1)
 
 -- ---- one group loses a counter, and goes if that was its last
@@ -40,11 +40,11 @@ pub parts : (ls : List Group) (b : ℕ) (ms : List ℕ) (rs : List Group) → (l
 parts ls b [] rs = ap (λ (x : List Group). x ++ rs) (append-nil ls)
 parts ls b (x ∷ ms) rs = append_assoc ls (group b (x ∷ ms) ∷ []) rs
 
-pub all_with : (P : Group → Type 0) (ls : List Group) (b : ℕ) (os ms : List ℕ) (rs : List Group) → ((x : ℕ) (xs : List ℕ) → P (group b (x ∷ xs))) → All P (ls ++ group b os ∷ rs) → All P (ls ++ with_group b ms rs)
+pub all_with : (P : Group → Type 0) (ls : List Group) (b : ℕ) (os ms : List ℕ) (rs : List Group) → ((x : ℕ) (xs : List ℕ) → P (group b (x ∷ xs))) → Each P (ls ++ group b os ∷ rs) → Each P (ls ++ with_group b ms rs)
 all_with P ls b os [] rs k h = all_out P ls (group b os) rs h
 all_with P ls b os (x ∷ ms) rs k h = all_in P ls (group b (x ∷ ms)) rs (k x ms) (all_out P ls (group b os) rs h)
 
-pub all_with_it : (P : Group → Type 0) (ls : List Group) (b : ℕ) (os ms : List ℕ) (rs : List Group) → P (group b ms) → All P (ls ++ group b os ∷ rs) → All P (ls ++ with_group b ms rs)
+pub all_with_it : (P : Group → Type 0) (ls : List Group) (b : ℕ) (os ms : List ℕ) (rs : List Group) → P (group b ms) → Each P (ls ++ group b os ∷ rs) → Each P (ls ++ with_group b ms rs)
 all_with_it P ls b os [] rs k h = all_out P ls (group b os) rs h
 all_with_it P ls b os (x ∷ ms) rs k h = all_in P ls (group b (x ∷ ms)) rs k (all_out P ls (group b os) rs h)
 
@@ -71,7 +71,7 @@ length_with ls b os (x ∷ ms) rs fs =
     let h = length-append ls (group b (x ∷ ms) ∷ rs) in
     let k = length-append ls (group b os ∷ rs) in omega arith
 
-pub length_tally : (gs : List Group) → All (λ g. 1 ≤ length g.members) gs → length gs ≤ tally gs
+pub length_tally : (gs : List Group) → Each (λ g. 1 ≤ length g.members) gs → length gs ≤ tally gs
 length_tally [] h = omega arith
 length_tally (g ∷ gs) h = let k = length_tally gs h.1 in let j = h.0 in omega arith
 

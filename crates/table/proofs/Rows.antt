@@ -1,6 +1,6 @@
 -- The row of groups: what its entries have in common, an entry put in and taken out, and that the links say it.
 use Rattle.std.proofs.Common.{◌≡◌, ℕ, zero, suc, ◌<◌, ◌≤◌, eqb, leb, List, [], ◌∷◌, ◌++◌, length, Some, None, Option, sym, refl, ap, ◌∙◌, append_assoc, le_of_suc-le-suc, not-suc-le-zero, arith}
-use Rattle.std.specs.List.{flat_map, AllByRecursion as All}
+use Rattle.std.specs.List.{flat_map, AllByRecursion as Each}
 use Rattle.std.proofs.ByRecursion.{All-append, All-weaker}
 use Rattle.std.proofs.lemmas.Bool.{leb-true, leb-false, eqb-true, eq-eqb, cond_both, cond-true}
 use Rattle.links.specs.Tables.{read}
@@ -25,11 +25,11 @@ pub joined_same : {X A : Type 0} (f g : X → List A) → ((x : X) → g x ≡ f
 joined_same f g h [] = refl
 joined_same f g h (x ∷ xs) = let e = h x in let r = joined_same f g h xs in cc
 
-all_joined : {X A : Type 0} (P : A → Type 0) (f : X → List A) (xs : List X) → All (λ x. All P (f x)) xs → All P (flat_map f xs)
+all_joined : {X A : Type 0} (P : A → Type 0) (f : X → List A) (xs : List X) → Each (λ x. Each P (f x)) xs → Each P (flat_map f xs)
 all_joined P f [] h = tt
 all_joined P f (x ∷ xs) h = All-append P (f x) (flat_map f xs) h.0 (all_joined P f xs h.1)
 
-all_read : {A B : Type 0} (P : B → Type 0) (f : A → List B) → ((x : A) → All P (f x)) → (t : List A) (i : ℕ) → All P (read f [] t i)
+all_read : {A B : Type 0} (P : B → Type 0) (f : A → List B) → ((x : A) → Each P (f x)) → (t : List A) (i : ℕ) → Each P (read f [] t i)
 all_read P f h [] i = tt
 all_read P f h (x ∷ t) zero = h x
 all_read P f h (x ∷ t) (suc i) = all_read P f h t i
@@ -44,7 +44,7 @@ module _ {T : Type 0} where
   row t gs = flat_map (row_of t) gs
 
   -- The same entries at the same counts.
-  pub row_agree : (t t' : List (Place T)) → Entries t t' → (gs : List Group) → All (λ g. worth t' g ≡ worth t g) gs → row t' gs ≡ row t gs
+  pub row_agree : (t t' : List (Place T)) → Entries t t' → (gs : List Group) → Each (λ g. worth t' g ≡ worth t g) gs → row t' gs ≡ row t gs
   row_agree t t' e [] h = refl
   row_agree t t' e (g ∷ gs) h =
       let q : flat_map (placed_in t' (worth t' g)) g.members ≡ flat_map (placed_in t (worth t' g)) g.members = joined_same (placed_in t (worth t' g)) (placed_in t' (worth t' g)) (e (worth t' g)) g.members in
@@ -52,27 +52,27 @@ module _ {T : Type 0} where
       let r = row_agree t t' e gs h.1 in cc
 
   -- What holds of the count of each group holds of the counts of the row; what holds of each counter, of its places.
-  members_counts : (Q : ℕ → Type 0) (t : List (Place T)) (v : ℕ) → Q v → (cs : List ℕ) → All (λ e. Q e.entry.count) (flat_map (placed_in t v) cs)
+  members_counts : (Q : ℕ → Type 0) (t : List (Place T)) (v : ℕ) → Q v → (cs : List ℕ) → Each (λ e. Q e.entry.count) (flat_map (placed_in t v) cs)
   members_counts Q t v q [] = tt
   members_counts Q t v q (c ∷ cs) =
       All-append (λ e. Q e.entry.count) (placed_in t v c) (flat_map (placed_in t v) cs) (all_read (λ e. Q e.entry.count) (placed_of c v) (λ x. (q, tt)) t c) (members_counts Q t v q cs)
 
-  pub row_counts : (Q : ℕ → Type 0) (t : List (Place T)) (gs : List Group) → All (λ g. Q (worth t g)) gs → All (λ e. Q e.entry.count) (row t gs)
+  pub row_counts : (Q : ℕ → Type 0) (t : List (Place T)) (gs : List Group) → Each (λ g. Q (worth t g)) gs → Each (λ e. Q e.entry.count) (row t gs)
   row_counts Q t gs h =
-      all_joined (λ e. Q e.entry.count) (row_of t) gs (All-weaker (λ g. Q (worth t g)) (λ g. All (λ e. Q e.entry.count) (row_of t g)) (λ g q. members_counts Q t (worth t g) q g.members) gs h)
+      all_joined (λ e. Q e.entry.count) (row_of t) gs (All-weaker (λ g. Q (worth t g)) (λ g. Each (λ e. Q e.entry.count) (row_of t g)) (λ g q. members_counts Q t (worth t g) q g.members) gs h)
 
-  pub members_places : (Q : ℕ → Type 0) (t : List (Place T)) (v : ℕ) (cs : List ℕ) → All Q cs → All (λ e. Q e.place) (flat_map (placed_in t v) cs)
+  pub members_places : (Q : ℕ → Type 0) (t : List (Place T)) (v : ℕ) (cs : List ℕ) → Each Q cs → Each (λ e. Q e.place) (flat_map (placed_in t v) cs)
   members_places Q t v cs h =
-      all_joined (λ e. Q e.place) (placed_in t v) cs (All-weaker Q (λ c. All (λ e. Q e.place) (placed_in t v c)) (λ c q. all_read (λ e. Q e.place) (placed_of c v) (λ x. (q, tt)) t c) cs h)
+      all_joined (λ e. Q e.place) (placed_in t v) cs (All-weaker Q (λ c. Each (λ e. Q e.place) (placed_in t v c)) (λ c q. all_read (λ e. Q e.place) (placed_of c v) (λ x. (q, tt)) t c) cs h)
 
-  pub row_places : (Q : ℕ → Type 0) (t : List (Place T)) (gs : List Group) → All (λ g. All Q g.members) gs → All (λ e. Q e.place) (row t gs)
+  pub row_places : (Q : ℕ → Type 0) (t : List (Place T)) (gs : List Group) → Each (λ g. Each Q g.members) gs → Each (λ e. Q e.place) (row t gs)
   row_places Q t gs h =
-      all_joined (λ e. Q e.place) (row_of t) gs (All-weaker (λ g. All Q g.members) (λ g. All (λ e. Q e.place) (row_of t g)) (λ g q. members_places Q t (worth t g) g.members q) gs h)
+      all_joined (λ e. Q e.place) (row_of t) gs (All-weaker (λ g. Each Q g.members) (λ g. Each (λ e. Q e.place) (row_of t g)) (λ g q. members_places Q t (worth t g) g.members q) gs h)
 
   -- ---- one entry of a row
 
   -- It is put in behind all of at most its count, and before all above.
-  pub insert_between : (e : Placed T) (xs ys : List (Placed T)) → All (λ x. x.entry.count ≤ e.entry.count) xs → All (λ y. e.entry.count < y.entry.count) ys → insert e (xs ++ ys) ≡ xs ++ e ∷ ys
+  pub insert_between : (e : Placed T) (xs ys : List (Placed T)) → Each (λ x. x.entry.count ≤ e.entry.count) xs → Each (λ y. e.entry.count < y.entry.count) ys → insert e (xs ++ ys) ≡ xs ++ e ∷ ys
   insert_between e [] [] lo hi = refl
   insert_between e [] (y ∷ ys) lo hi =
       cond_both (leb y.entry.count e.entry.count) (y ∷ insert e ys) (e ∷ y ∷ ys) (λ r. r ≡ e ∷ y ∷ ys)
@@ -83,18 +83,18 @@ module _ {T : Type 0} where
       (λ q. let a = leb-false x.entry.count e.entry.count q in let b = lo.0 in absurd (omega arith))
 
   -- It is found at its place, and taken out there, where none before it has that place.
-  pub at_mid : (p : ℕ) (xs : List (Placed T)) (e : Placed T) (ys : List (Placed T)) → All (λ x. x.place ≡ p → ⊥) xs → e.place ≡ p → at_place p (xs ++ e ∷ ys) ≡ Some e
+  pub at_mid : (p : ℕ) (xs : List (Placed T)) (e : Placed T) (ys : List (Placed T)) → Each (λ x. x.place ≡ p → ⊥) xs → e.place ≡ p → at_place p (xs ++ e ∷ ys) ≡ Some e
   at_mid p [] e ys o q = cond-true (eqb p e.place) (Some e) (at_place p ys) (eq-eqb p e.place (sym q))
   at_mid p (x ∷ xs) e ys o q =
       cond_both (eqb p x.place) (Some x) (at_place p (xs ++ e ∷ ys)) (λ r. r ≡ Some e) (λ h. absurd (o.0 (sym (eqb-true p x.place h)))) (λ h. at_mid p xs e ys o.1 q)
 
-  pub off_mid : (p : ℕ) (xs : List (Placed T)) (e : Placed T) (ys : List (Placed T)) → All (λ x. x.place ≡ p → ⊥) xs → e.place ≡ p → off_place p (xs ++ e ∷ ys) ≡ xs ++ ys
+  pub off_mid : (p : ℕ) (xs : List (Placed T)) (e : Placed T) (ys : List (Placed T)) → Each (λ x. x.place ≡ p → ⊥) xs → e.place ≡ p → off_place p (xs ++ e ∷ ys) ≡ xs ++ ys
   off_mid p [] e ys o q = cond-true (eqb p e.place) ys (e ∷ off_place p ys) (eq-eqb p e.place (sym q))
   off_mid p (x ∷ xs) e ys o q =
       cond_both (eqb p x.place) (xs ++ e ∷ ys) (x ∷ off_place p (xs ++ e ∷ ys)) (λ r. r ≡ x ∷ (xs ++ ys)) (λ h. absurd (o.0 (sym (eqb-true p x.place h))))
       (λ h. ap (λ (r : List (Placed T)). x ∷ r) (off_mid p xs e ys o.1 q))
 
-  pub at_none : (p : ℕ) (xs : List (Placed T)) → All (λ x. x.place ≡ p → ⊥) xs → at_place p xs ≡ None
+  pub at_none : (p : ℕ) (xs : List (Placed T)) → Each (λ x. x.place ≡ p → ⊥) xs → at_place p xs ≡ None
   at_none p [] o = refl
   at_none p (x ∷ xs) o =
       cond_both (eqb p x.place) (Some x) (at_place p xs) (λ r. r ≡ None) (λ h. absurd (o.0 (sym (eqb-true p x.place h)))) (λ h. at_none p xs o.1)
@@ -127,7 +127,7 @@ module _ {T : Type 0} (t : List (Place T)) where
   counters_are g h l =
       ap (λ (o : Option ℕ). walk (next_in counter_links t) o (length t)) h.list.begins ∙ walk_chain (next_in counter_links t) (prev_in counter_links t) (length t) None g.members h.list.list.chain l
 
-  walked_row : (gs : List Group) → All (Holds t) gs → tally gs ≤ length t → flat_map (λ b. flat_map (placed_in t (value_in t b)) (counters t b)) (ats gs) ≡ row t gs
+  walked_row : (gs : List Group) → Each (Holds t) gs → tally gs ≤ length t → flat_map (λ b. flat_map (placed_in t (value_in t b)) (counters t b)) (ats gs) ≡ row t gs
   walked_row [] h l = refl
   walked_row (g ∷ gs) h l =
       let lg : length g.members ≤ length t = omega arith in

@@ -1,6 +1,6 @@
 -- One counter in use, at p: where it hangs, what the row has before and behind it, and what is read of it without a walk.
 use Rattle.std.proofs.Common.{◌≡◌, ℕ, ◌<◌, ◌≤◌, List, [], ◌∷◌, ◌++◌, length, Some, None, Option, sym, refl, ap, ◌∙◌, append_assoc}
-use Rattle.std.specs.List.{flat_map, AllByRecursion as All}
+use Rattle.std.specs.List.{flat_map, AllByRecursion as Each}
 use Rattle.std.proofs.ByRecursion.{All-append}
 use Rattle.links.specs.Chains.{Off, Apart, last_or}
 use Rattle.links.proofs.Alls.{all_left, all_mid}
@@ -71,7 +71,7 @@ module _ {T : Type 0} (t : List (Place T)) (s : Lists) (used total : ℕ) (ls : 
       ap (row t) (parts ls b (xs ++ zs) rs) ∙ row_with (xs ++ zs) ∙ ap (λ (r : List (Placed T)). L ++ (r ++ Y)) (joined_append E xs zs)
       ∙ ap (λ (r : List (Placed T)). L ++ r) (append_assoc X Z Y) ∙ sym (append_assoc L X (Z ++ Y))
 
-  lower_clear : All (λ e. e.place ≡ p → ⊥) lower_part
+  lower_clear : Each (λ e. e.place ≡ p → ⊥) lower_part
   lower_clear =
       let o = (pull_loose t s ls rs b p xs zs fs h.full).off in
       let m : Off p (xs ++ zs) = all_mid (λ g. Off p g.members) ls (group b (xs ++ zs)) rs o in

@@ -1,6 +1,6 @@
 -- A table that stands keeps to the structure that the walks along its links show.
 use Rattle.std.proofs.Common.{◌≡◌, ℕ, ◌<◌, ◌≤◌, List, [], ◌∷◌, ◌++◌, length, None, Option, ap, ◌∙◌, arith}
-use Rattle.std.specs.List.{AllByRecursion as All}
+use Rattle.std.specs.List.{AllByRecursion as Each}
 use Rattle.std.proofs.lemmas.List.{length-append}
 use Rattle.std.proofs.ByRecursion.{All-append, All-weaker, All-map}
 use Rattle.links.specs.Chains.{Chain, Apart, Within, last_or}
@@ -19,7 +19,7 @@ use Rattle.table.proofs.Covering.{covers}
 
 module _ {T : Type 0} (t : List (Place T)) where
   -- What holds of each group holds of each bucket in use and the counters that a walk finds there.
-  each_bucket : (P : ℕ → List ℕ → Type 0) (gs : List Group) → All (Holds t) gs → tally gs ≤ length t → All (λ g. P g.at g.members) gs → All (λ b. P b (counters t b)) (ats gs)
+  each_bucket : (P : ℕ → List ℕ → Type 0) (gs : List Group) → Each (Holds t) gs → tally gs ≤ length t → Each (λ g. P g.at g.members) gs → Each (λ b. P b (counters t b)) (ats gs)
   each_bucket P [] h l p = tt
   each_bucket P (g ∷ gs) h l p =
       let lg : length g.members ≤ length t = omega arith in
@@ -30,7 +30,7 @@ module _ {T : Type 0} (t : List (Place T)) where
   rises_ats [] r = tt
   rises_ats (g ∷ gs) r = (All-map (λ b. worth t g < value_in t b) (λ k. k.at) gs r.0, rises_ats gs r.1)
 
-  crowd_within : (n : ℕ) (gs : List Group) → All (λ g. Within n g.members) gs → Within n (crowd gs)
+  crowd_within : (n : ℕ) (gs : List Group) → Each (λ g. Within n g.members) gs → Within n (crowd gs)
   crowd_within n [] w = tt
   crowd_within n (g ∷ gs) w = All-append (λ x. x < n) g.members (crowd gs) w.0 (crowd_within n gs w.1)
 
@@ -58,7 +58,7 @@ module _ {T : Type 0} (t : List (Place T)) where
         let c = length_crowd gs in
         let q = h.counters in
         let all : length (ats gs ++ fs) ≡ length t = omega arith in
-        let rowed : All (λ e. e.entry.count ≤ total) (placed_row t s.main.first) = rw (row_sound t s used total gs fs h) (row_counts (λ v. v ≤ total) t gs h.under) in
+        let rowed : Each (λ e. e.entry.count ≤ total) (placed_row t s.main.first) = rw (row_sound t s used total gs fs h) (row_counts (λ v. v ≤ total) t gs h.under) in
         record {
           rising = rw b (rises_ats gs h.rising);
           filled = rw b (each_bucket (λ i cs. 1 ≤ length cs) gs hs few h.filled);
@@ -69,7 +69,7 @@ module _ {T : Type 0} (t : List (Place T)) where
           counters_chained =
               rw b (each_bucket (λ i cs. Chain (next_in counter_links t) (prev_in counter_links t) None cs None) gs hs few (All-weaker (Holds t) (λ g. Chain (next_in counter_links t) (prev_in counter_links t) None g.members None) (λ g x. x.list.list.chain) gs hs));
           counter_ends = rw b (each_bucket (λ i cs. (members_in t i).last ≡ last_or None cs) gs hs few (All-weaker (Holds t) (λ g. (members_in t g.at).last ≡ last_or None g.members) (λ g x. x.list.stops) gs hs));
-          owned = rw b (each_bucket (λ i cs. All (λ x. owner_in t x ≡ i) cs) gs hs few (All-weaker (Holds t) (λ g. All (λ x. owner_in t x ≡ g.at) g.members) (λ g x. x.mine) gs hs));
+          owned = rw b (each_bucket (λ i cs. Each (λ x. owner_in t x ≡ i) cs) gs hs few (All-weaker (Holds t) (λ g. Each (λ x. owner_in t x ≡ g.at) g.members) (λ g x. x.mine) gs hs));
           hung = λ i. ap (times i) (places_are t s used total gs fs h) ∙ covers used (crowd gs) (places_apart t s used total gs fs h) (crowd_within used gs h.inside) (c ∙ q) i;
           spare = λ i. rw (b, f) (covers (length t) (ats gs ++ fs) buckets_apart (All-append (λ x. x < length t) (ats gs) fs h.full.buckets.list.within h.full.unused.list.within) all i);
           under = rowed;

@@ -1,6 +1,6 @@
 -- What a table stands for: the buckets in use in order, each with its counters in order, and the free buckets.
 use Rattle.std.specs.Prelude.{◌≡◌, ℕ, zero, suc, ◌<◌, List, [], ◌∷◌, ◌++◌, map, length}
-use Rattle.std.specs.List.{AllByRecursion as All}
+use Rattle.std.specs.List.{AllByRecursion as Each}
 use Rattle.links.specs.Chains.{Off, Cross}
 use Rattle.links.specs.Lists.{Listed}
 use Rattle.table.specs.declared.place.Place.{Place}
@@ -22,18 +22,18 @@ ats gs = map (λ g. g.at) gs
 -- The table holds a group: its counters are the list between the bucket's ends, and each names the bucket.
 pub record Holds {T : Type 0} (t : List (Place T)) (g : Group) : Type 0 where
   pub list : Listed counter_links t g.members (members_in t g.at)
-  pub mine : All (λ c. owner_in t c ≡ g.at) g.members
+  pub mine : Each (λ c. owner_in t c ≡ g.at) g.members
 
 -- The buckets in use are those of the groups gs, and fs are the free ones: two lists of one kind that share no bucket.
 pub record Full {T : Type 0} (t : List (Place T)) (s : Lists) (gs : List Group) (fs : List ℕ) : Type 0 where
   pub buckets : Listed bucket_links t (ats gs) s.main
-  pub groups : All (Holds t) gs
+  pub groups : Each (Holds t) gs
   pub unused : Listed bucket_links t fs s.free
   pub apart : Cross (ats gs) fs
 
 -- The counter c is of the table, and in none of the groups.
 pub record Loose {T : Type 0} (t : List (Place T)) (gs : List Group) (c : ℕ) : Type 0 where
-  pub off : All (λ g. Off c g.members) gs
+  pub off : Each (λ g. Off c g.members) gs
   pub within : c < length t
 
 -- The groups rs, after the bucket b with the counters ms if there are any; and the free buckets, with b if there are none.

@@ -1,6 +1,6 @@
 -- What the links of a table keep to while no counter is detached.
 use Rattle.std.specs.Prelude.{◌≡◌, ℕ, ◌+◌, ◌<◌, ◌≤◌, ◌⊎◌, List, [], ◌∷◌, length}
-use Rattle.std.specs.List.{AllByRecursion as All}
+use Rattle.std.specs.List.{AllByRecursion as Each}
 use Rattle.links.specs.Chains.{Within}
 use Rattle.table.specs.declared.place.Place.{Place}
 use Rattle.table.specs.declared.lists.Lists.{Lists}
@@ -15,7 +15,7 @@ tally (g ∷ gs) = length g.members + tally gs
 -- f rises strictly along the list.
 abbrev pub Rises : {A : Type 0} → (A → ℕ) → List A → Type 0
 Rises f [] = Unit {0}
-Rises f (x ∷ xs) = All (λ y. f x < f y) xs × Rises f xs
+Rises f (x ∷ xs) = Each (λ y. f x < f y) xs × Rises f xs
 
 -- The count that a group's counters have.
 abbrev pub worth : {T : Type 0} → List (Place T) → Group → ℕ
@@ -36,10 +36,10 @@ Among q (g ∷ gs) = In q g.members ⊎ Among q gs
 pub record Sound {T : Type 0} (t : List (Place T)) (s : Lists) (used total : ℕ) (gs : List Group) (fs : List ℕ) : Type 0 where
   pub full : Full t s gs fs
   pub rising : Rises (worth t) gs
-  pub under : All (λ g. worth t g ≤ total) gs
-  pub positive : All (λ g. 1 ≤ worth t g) gs
-  pub inside : All (λ g. Within used g.members) gs
-  pub filled : All (λ g. 1 ≤ length g.members) gs
+  pub under : Each (λ g. worth t g ≤ total) gs
+  pub positive : Each (λ g. 1 ≤ worth t g) gs
+  pub inside : Each (λ g. Within used g.members) gs
+  pub filled : Each (λ g. 1 ≤ length g.members) gs
   pub counters : tally gs ≡ used
   pub buckets : length gs + length fs ≡ length t
   pub fits : used ≤ length t
