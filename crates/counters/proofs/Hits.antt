@@ -57,6 +57,10 @@ module _ {T : Type 0} where
   raise_made t t₁ t₂ s s₁ s₂ used total p y v a st lt k ey ev j =
       raise_shows t t₁ t₂ s s₁ s₂ used total p (v + 1) a st lt k (ap (λ (n : ℕ). n + 1) ev) (rw (← ey) j)
 
+  -- The same of the structure alone, with the total as it is written.
+  pub raise_stands : (t t₁ t₂ : List (Place T)) (s s₁ s₂ : Lists) (used total n p y v : ℕ) (a : Option ℕ) → Stands t s used total → p < used → TakenOut t t₁ s s₁ p a → y ≡ p → v ≡ value_in t (owner_in t p) → HungUp t₁ t₂ s₁ s₂ a (v + 1) y → n ≡ total + 1 → Stands t₂ s₂ used n
+  raise_stands t t₁ t₂ s s₁ s₂ used total n p y v a st lt k ey ev j en = rw en (raise_made t t₁ t₂ s s₁ s₂ used total p y v a st lt k ey ev j).stands
+
   pub enter_made : (t t₁ t₂ : List (Place T)) (s s₁ s₂ : Lists) (p y total : ℕ) (a : Option ℕ) (x : T) → Stands t s p total → p < length t → y ≡ p → a ≡ None → t₁ ≡ edit (labelled x 0) y t → s₁ ≡ s → HungUp t₁ t₂ s₁ s₂ a 1 y → Shows t₂ s₂ (p + 1) (total + 1) (entered p x (placed_row t s.main.first))
   enter_made t t₁ t₂ s s₁ s₂ p y total a x st lt ey ea et es j =
       let j' : HungUp (edit (labelled x 0) y t) t₂ s s₂ None 1 y = rw (← et, ← es, ← ea) j in

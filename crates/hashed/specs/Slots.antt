@@ -1,5 +1,5 @@
 -- What the slots of a hashed finder stand for, and how they are linked.
-use Rattle.std.specs.Prelude.{◌≡◌, ℕ, ◌%◌, Bool, true, false, cond, List, [], ◌∷◌, map, length, get_or, None, Option, ◌==◌, slice_index_or}
+use Rattle.std.specs.Prelude.{◌≡◌, ℕ, ◌%◌, Bool, true, false, cond, List, [], ◌∷◌, map, length, None, Option, ◌==◌, slice_index_or}
 use Rattle.std.specs.List.{AllByRecursion as Each}
 use Rattle.finders.specs.declared.finder.Binding.{Binding}
 use Rattle.finders.specs.Lookup.{Apart}
@@ -31,7 +31,7 @@ module _ {T : Type 0} where
 
   -- The structure of n slots with these entries, links and heads, and `free` for the head of those not in use.
   abbrev pub Stands : ℕ → List (Entry T) → List (Option ℕ) → List (Option ℕ) → Option ℕ → Type 0
-  Stands n es ls hs free = Chained n (λ i. get_or (map (chain_of n) es) i n) (λ i. get_or ls i None) (λ b. cond (b == n) free (slice_index_or hs b None))
+  Stands n es ls hs free = Chained n (λ i. slice_index_or (map (chain_of n) es) i n) (λ i. slice_index_or ls i None) (λ b. cond (b == n) free (slice_index_or hs b None))
 
   abbrev pub Sound : List (Slot T) → Option ℕ → Type 0
   Sound t free = Stands (length t) (entries t) (links t) (heads t) free

@@ -1,5 +1,5 @@
 -- What is read off a row of m counters: brackets, frequent lists, top lists, watched hits and shares.
-use Rattle.std.specs.Prelude.{ℕ, zero, suc, ◌+◌, ◌-◌, ◌*◌, ◌/◌, min, max, Bool, true, cond, ◌&&◌, leb, List, [], ◌∷◌, reverse, length, take, drop, is_some, Some, None, filter, Option, ◌==◌, nat_le, nat_lt}
+use Rattle.std.specs.Prelude.{ℕ, zero, suc, ◌+◌, ◌-◌, ◌*◌, ◌/◌, min, max, Bool, true, cond, ◌&&◌, List, [], ◌∷◌, reverse, length, take, drop, is_some, Some, None, filter, Option, ◌==◌, nat_le, nat_lt}
 use Rattle.rows.specs.declared.entry.Entry.{Entry}
 use Rattle.rows.specs.Row.{entry_of}
 
@@ -49,7 +49,7 @@ threshold p q n = max 1 ((p * n + (q - 1)) / q)
 module _ {Item : Type 0} where
   -- The frequent list of a threshold t: by position, every entry whose count is at least t.
   abbrev pub frequent : ℕ → List (Entry Item) → List (Entry Item)
-  frequent t row = filter (λ e. leb t e.count) (by_position row)
+  frequent t row = filter (λ e. nat_le t e.count) (by_position row)
 
   -- A line is sure if its lower figure is at least t.
   abbrev pub sure : ℕ → Entry Item → Bool
@@ -79,7 +79,7 @@ or_else n None = n
 module _ {Item : Type 0} where
   -- The first j positions are clear of the rest: every lower figure there is at least the figure after j.
   abbrev pub clear : ℕ → List (Entry Item) → ℕ → Bool
-  clear m row j = every (λ e. leb (figure_after m row j) (lower e)) (take j (by_position row))
+  clear m row j = every (λ e. nat_le (figure_after m row j) (lower e)) (take j (by_position row))
 
   -- Where a top list of k ends: the smallest clear number from min(k, u) to u, of a row of u entries.
   abbrev pub cut : ℕ → ℕ → List (Entry Item) → Option ℕ

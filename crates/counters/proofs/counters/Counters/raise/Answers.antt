@@ -3,7 +3,7 @@ use Rattle.std.proofs.Common.{refl, ◌∙◌, arith, rules}
 use mathlib.Core.Logic.{∥∥₁_map, ∥∥₁_elim}
 use Rattle.std.proofs.lemmas.Bool.{true≢false}
 use Rattle.counters.proofs.Sets.{rows_set}
-use Rattle.counters.proofs.Hits.{made, no_place, no_count, not_made, used_of, count_of, raise_made}
+use Rattle.counters.proofs.Hits.{made, no_place, no_count, not_made, used_of, count_of, raise_made, raise_stands}
 use Rattle.counters.proofs.counters.Counters.raise.Goals as goal
 
 pub overflow_add-count : goal.overflow_add-count
@@ -18,11 +18,10 @@ invariant_of-self g c =
     let s = c.args.self.now in
     let d = c.detach-detached.ensures in
     let z = d.out.quiet.size in
-    let z' = c.attach.ensures.size in
     record {
-      small = omega (arith, s.small, z, z');
-      fits = omega (arith, s.fits, z, z');
-      sound = ∥∥₁_map s.sound (λ st. rw c.in-Some.ensures.1 (raise_made _ _ _ _ _ _ _ _ c.args.place _ _ _ st c.if-place-self.false d.out d.place d.count c.attach.ensures).stands);
+      small = omega (arith, s.small, z);
+      fits = omega (arith, s.fits, z);
+      sound = ∥∥₁_map s.sound (λ st. raise_stands _ _ _ _ _ _ _ _ _ c.args.place _ _ _ st c.if-place-self.false d.out d.place d.count (search rules) c.in-Some.ensures.1);
     }
 
 pub returns-then-place-self : goal.returns-then-place-self
