@@ -4,7 +4,8 @@
 usage: python3 tools/goal_names.py NAME..        at the top of the repository
 
 `rt check --generated` lists the names of each function. A name in the function's proof files that Rattle no longer makes,
-and that differs from exactly one of today's in '_' and '-' alone, is replaced by that one.
+and that differs from exactly one of today's in '_' and '-' alone, is replaced by that one. A step that the list lacks gets
+'_' within Rattle's own words and within the names of this repository's functions.
 """
 
 import glob
@@ -56,9 +57,7 @@ def main():
             if "-proofs." not in key:
                 continue
             at = key.split("proofs.", 1)[1].rsplit(".", 1)[0].replace(".", "/")
-            today = set()
-            for s in strings(value):
-                today.add(s)
+            today = set(strings(value))
             for loop in value.get("loops", []):
                 for s in strings(loop):
                     today |= {s + e for e in ("-init", "-preserved", "-smaller", "-test")} | {"invariant-" + s, "decreases-" + s}
