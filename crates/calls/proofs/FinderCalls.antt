@@ -147,7 +147,7 @@ module _ {S T F : Type 0} (same : T → T → Bool) (laws : Equivalence same) (b
       unchanged_after : {Answer : Type 0} (refusal : Option Refusal) (a : Answer) (r : Result Answer Refusal) (s' : S) (f' : F) →
           Unless refusal r (Unchanged s f s' f') ((r ≡ Ok a) × Accepted same bindings room lawful reading s f x s' f') → unless_error x r ≡ [] → state s' f' ≡ state s f
       unchanged_after (Some why) a r s' f' u none = ap (λ t. state t f') u.1.summary ∙ ap (state s) u.1.finder
-      unchanged_after None a r s' f' u none = absurd (let no_hit : x ∷ [] ≡ [] = sym (ap (unless_error x) u.0) ∙ none in let z : ◌≡◌ {A = ℕ} 0 1 = cc in omega arith)
+      unchanged_after None a r s' f' u none = absurd (let no_hit : x ∷ [] ≡ [] = sym (ap (unless_error x) u.0) ∙ none in cc)
 
       -- ---- hits
 

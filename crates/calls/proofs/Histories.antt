@@ -3,6 +3,7 @@ use Rattle.std.proofs.Common.{◌≡◌, ℕ, Bool, List, [], ◌∷◌, ◌++�
 use Rattle.std.specs.List.{AllByRecursion as Each}
 use Rattle.std.proofs.lemmas.List.{nil_from_length}
 use Rattle.std.proofs.lemmas.Bool.{false≢true}
+use Rattle.std.proofs.lemmas.Option.{none-some}
 use Rattle.items.specs.Sameness.{Equivalence}
 use Rattle.rows.specs.Promises.{Exactly, SoundRow, sum_of_counts}
 use Rattle.rows.proofs.Theorem.{row_promises}
@@ -18,7 +19,6 @@ use Rattle.calls.specs.Conditions.{Openable}
 use Rattle.calls.specs.Truth.{OpenTruth}
 use Rattle.calls.specs.Sound.{Sound}
 use Rattle.calls.specs.History.{Call, hit_call, watched_call, bracket_call, frequent_call, top_call, State, state, Step, counted, Answered, History, Keeps, KeptThroughout, Promise}
-use Rattle.calls.proofs.Stepping.{none_is_not_some}
 use Rattle.calls.proofs.Refusing.{ok_is_not_err, open_means, open_given, size_refuses, capacity_refuses, occupied_refuses}
 use Rattle.calls.proofs.ListCalls.{keeps_frequent, keeps_top}
 use Rattle.calls.proofs.FinderCalls.{keeps_hit, keeps_watched, keeps_bracket, kept_question}
@@ -93,7 +93,7 @@ module _ {S T F : Type 0} (same : T → T → Bool) (laws : Equivalence same) (b
         let can = open_means m (room f) (length (bindings f)) is in
         (record { means = λ _. can; given = λ _. refl }, can)
     opens_exactly m f (Err other) (Some why) is u =
-        (record { means = λ t. absurd (false≢true t); given = λ can. absurd (none_is_not_some (sym (open_given m (room f) (length (bindings f)) can) ∙ is)) }, tt)
+        (record { means = λ t. absurd (false≢true t); given = λ can. absurd (none-some why (sym (open_given m (room f) (length (bindings f)) can) ∙ is)) }, tt)
     opens_exactly m f (Err other) None is u = absurd (ok_is_not_err (sym u))
 
     from_opened : (m : ℕ) (f : F) (r : Result (Unit {0}) Refusal) → IfOk r (λ _. Openable m (room f) (length (bindings f))) →

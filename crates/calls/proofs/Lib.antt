@@ -1,6 +1,5 @@
 pub mod Refusing
 pub mod Stepping
-pub mod Foreigners
 pub mod Truths
 pub mod ListCalls
 pub mod FinderCalls

@@ -1,6 +1,7 @@
 -- How a call ends: with the first refusal that applies, or accepted.
 use Rattle.std.proofs.Common.{◌≡◌, ℕ, ◌<◌, ◌≤◌, Bool, true, false, cond, ◌||◌, eqb, ltb, leb, is_ok, IfOk, IfErr, Some, None, Ok, Err, Option, Result, sym, refl, ap, ◌∙◌, subst, arith}
-use Rattle.std.proofs.lemmas.Bool.{false≢true, cond-false, or_parts, or_from, eqb-false, ne_eqb, ltb-false, le-ltb, leb-false, lt-leb}
+use Rattle.std.proofs.lemmas.Bool.{false≢true, cond-false, or_parts, or_from, eqb-false, ne_eqb, ltb-false, le-ltb, leb-false, lt-leb, cond-true, true_from_ne_false}
+use Rattle.std.proofs.lemmas.Option.{none-some}
 use Rattle.rows.specs.Promises.{Exactly}
 use Rattle.calls.specs.declared.refusal.Refusal.{Refusal}
 use Rattle.calls.specs.declared.refusal.Refusal.TheVariants.{Size, Capacity, Occupied, Limit, Rank, Support, Lines, Foreign}
@@ -8,25 +9,22 @@ use Rattle.calls.specs.Refusals.{number_of, open_refusal, limit, rank, support, 
 use Rattle.calls.specs.Conditions.{Sized, Openable, Supported, Ranked}
 
 pub ok_is_not_err : {Answer : Type 0} {a : Answer} {why : Refusal} → Ok a ≡ Err why → ⊥
-ok_is_not_err e = let z : ◌≡◌ {A = ℕ} 0 1 = cc in omega arith
-
-some_is_not_none : {why : Refusal} → Some why ≡ None → ⊥
-some_is_not_none e = let z : ◌≡◌ {A = ℕ} 0 1 = cc in omega arith
+ok_is_not_err e = cc
 
 -- ---- the two ends of a call: how to show them (`refuses`, `goes_on`), and what follows from them
 
 module _ {Answer : Type 0} (r : Result Answer Refusal) (kept done : Type 0) where
   pub refuses : (o : Option Refusal) (why : Refusal) → o ≡ Some why → r ≡ Err why → kept → Unless o r kept done
   refuses (Some other) why e answer k = let same : why ≡ other = cc in (answer ∙ ap Err same, k)
-  refuses None why e answer k = absurd (some_is_not_none (sym e))
+  refuses None why e answer k = absurd cc
 
   pub goes_on : (o : Option Refusal) → o ≡ None → done → Unless o r kept done
-  goes_on (Some why) e d = absurd (some_is_not_none e)
+  goes_on (Some why) e d = absurd cc
   goes_on None e d = d
 
   pub answers_refusal : (o : Option Refusal) (why : Refusal) → o ≡ Some why → Unless o r kept done → (r ≡ Err why) × kept
   answers_refusal (Some other) why e u = let same : other ≡ why = cc in (u.0 ∙ ap Err same, u.1)
-  answers_refusal None why e u = absurd (some_is_not_none (sym e))
+  answers_refusal None why e u = absurd cc
 
   pub unless_weaker : (kept' done' : Type 0) → (kept → kept') → (done → done') → (o : Option Refusal) → Unless o r kept done → Unless o r kept' done'
   unless_weaker kept' done' f g (Some why) u = (u.0, f u.1)
@@ -36,7 +34,7 @@ module _ {Answer : Type 0} (r : Result Answer Refusal) (kept done : Type 0) wher
     -- A call is accepted exactly if nothing refuses it.
     pub accepted_exactly : (Fact : Type 0) (o : Option Refusal) → (o ≡ None → Fact) → (Fact → o ≡ None) → Unless o r kept done → Exactly (is_ok r) Fact
     accepted_exactly Fact (Some why) means given u =
-        record { means = λ t. absurd (false≢true (sym (ap is_ok u.0) ∙ t)); given = λ f. absurd (some_is_not_none (given f)) }
+        record { means = λ t. absurd (false≢true (sym (ap is_ok u.0) ∙ t)); given = λ f. absurd (none-some why (sym (given f))) }
     accepted_exactly Fact None means given u = record { means = λ t. means refl; given = λ f. ap is_ok (answers u) }
 
     -- What a refusal keeps is kept.
@@ -60,17 +58,13 @@ made_if_accepted (Ok v) kept done a P None f u = let same : v ≡ a = let first 
 -- A test, and what may refuse after it.
 module _ (b : Bool) (why : Refusal) (next : Option Refusal) where
   refuses_first : (b ≡ false → ⊥) → cond b (Some why) next ≡ Some why
-  refuses_first fails = go b refl
-    where
-      go : (c : Bool) → b ≡ c → cond c (Some why) next ≡ Some why
-      go true t = refl
-      go false f = absurd (fails f)
+  refuses_first fails = cond-true b (Some why) next (true_from_ne_false b fails)
 
   none_refuses : cond b (Some why) next ≡ None → (b ≡ false) × (next ≡ None)
   none_refuses e = go b refl e
     where
       go : (c : Bool) → b ≡ c → cond c (Some why) next ≡ None → (b ≡ false) × (next ≡ None)
-      go true t none = absurd (some_is_not_none none)
+      go true t none = absurd cc
       go false f none = (f, none)
 
 -- The limit of hits.
@@ -176,11 +170,8 @@ another : (b : Bool) (why : Refusal) (next : Option Refusal) → (number_of why 
 another true why next other rest e = let same : why ≡ Foreign = cc in other (ap number_of same)
 another false why next other rest e = rest e
 
-none_is_another : None ≡ Some Foreign → ⊥
-none_is_another e = some_is_not_none (sym e)
-
 pub limit_is_another : (n : ℕ) → limit n None ≡ Some Foreign → ⊥
-limit_is_another n = another (leb 4294967295 n) Limit None (λ e. omega arith) none_is_another
+limit_is_another n = another (leb 4294967295 n) Limit None (λ e. omega arith) (none-some Foreign)
 
 pub rank_is_another : (m k : ℕ) (next : Option Refusal) → (next ≡ Some Foreign → ⊥) → rank m k next ≡ Some Foreign → ⊥
 rank_is_another m k next = another (eqb k 0 || ltb m k) Rank next (λ e. omega arith)
@@ -189,4 +180,4 @@ pub support_is_another : (p q : ℕ) (next : Option Refusal) → (next ≡ Some 
 support_is_another p q next = another (eqb p 0 || (ltb q p || ltb 1000000 q)) Support next (λ e. omega arith)
 
 pub fits_is_another : (listed supplied : ℕ) → length_refusal listed supplied ≡ Some Foreign → ⊥
-fits_is_another listed supplied = another (ltb supplied listed) Lines None (λ e. omega arith) none_is_another
+fits_is_another listed supplied = another (ltb supplied listed) Lines None (λ e. omega arith) (none-some Foreign)

@@ -3,22 +3,19 @@ use Rattle.std.proofs.Common.{◌≡◌, ℕ, ◌+◌, ◌<◌, ◌≤◌, Bool,
 use lib.ListN.{length-map}
 use Rattle.std.specs.List.{AllByRecursion as Each}
 use Rattle.std.proofs.ByRecursion.{All-weaker}
-use Rattle.std.proofs.lemmas.Bool.{cond-true, cond-false, cond_both, eq-eqb, lt-leb, ltb-true, ltb-false, both_ways, or_from}
+use Rattle.std.proofs.lemmas.Bool.{cond-true, cond-false, cond_both, eq-eqb, lt-leb, ltb-true, ltb-false, both_ways, or_from, false_from_ne_true}
+use Rattle.items.proofs.Alike.{flipped, turned}
 use Rattle.items.specs.Sameness.{Equivalence}
 use Rattle.rows.specs.declared.entry.Entry.{Entry}
 use Rattle.rows.specs.Row.{one_if, entry, raised as raised_entry, insert as insert_entry, take_over, entry_of, without, hit, hit_at}
 use Rattle.rows.specs.Promises.{Pairwise, Apart}
 use Rattle.rows.proofs.Lists.{all_both}
 use Rattle.rows.proofs.Put.{Put, here, there, put_length, others_out}
-use Rattle.rows.proofs.Sameness.{false_since, flipped}
 use Rattle.table.specs.Placed.{Placed, entries, places, put, insert, at_place, off_place, raised, overtaken, step, placed_entry}
 use Rattle.calls.specs.Reading.{times, FirstPlaces}
 use Rattle.calls.specs.Lookups.{place_in, with_item, find_overtaken, find_after, held_count_after}
 use Rattle.calls.specs.Foreign.{gives, holds, foreign_place, foreign_first, foreign_hit}
 use Rattle.calls.specs.Calls.{entry_at}
-
-pub none_is_not_some : {X : Type 0} {x : X} → None ≡ Some x → ⊥
-none_is_not_some e = let z : ◌≡◌ {A = ℕ} 0 1 = cc in omega arith
 
 -- ---- one entry put into a placed row
 
@@ -50,7 +47,7 @@ none_counted : (b : Bool) → one_if b ≤ 0 → b ≡ false
 none_counted true l = absurd (omega arith)
 none_counted false l = refl
 
-one_counted : (b : Bool) → 1 ≤ one_if b → b ≡ true
+pub one_counted : (b : Bool) → 1 ≤ one_if b → b ≡ true
 one_counted true l = refl
 one_counted false l = absurd (omega arith)
 
@@ -69,7 +66,7 @@ module _ {T : Type 0} (same : T → T → Bool) where
     out : Put e (off_place p row) row
 
   spot : (x : T) (p : ℕ) (row : List (Placed T)) → place_in same row x ≡ Some p → times p (places row) ≤ 1 → Spot x p row
-  spot x p [] eq single = absurd (none_is_not_some eq)
+  spot x p [] eq single = absurd cc
   spot x p (f ∷ row) eq single = go (spot x p row) (same f.entry.item x) refl eq
     where
       go : (place_in same row x ≡ Some p → times p (places row) ≤ 1 → Spot x p row) → (b : Bool) → same f.entry.item x ≡ b → cond b (Some f.place) (place_in same row x) ≡ Some p → Spot x p (f ∷ row)
@@ -108,7 +105,7 @@ module _ {T : Type 0} (same : T → T → Bool) where
   missing x (f ∷ row) eq = go (missing x row) (same f.entry.item x) refl eq
     where
       go : (place_in same row x ≡ None → Missing x row) → (b : Bool) → same f.entry.item x ≡ b → cond b (Some f.place) (place_in same row x) ≡ None → Missing x (f ∷ row)
-      go ih true t is = absurd (none_is_not_some (sym is))
+      go ih true t is = absurd cc
       go ih false t is = let k = ih is in ((t, k.0), cond-false (same f.entry.item x) _ _ t ∙ k.1)
 
   -- ---- entries of different items
@@ -125,13 +122,6 @@ module _ {T : Type 0} (same : T → T → Bool) where
   all_differ (e ∷ row) a = (all_entries (λ b. same e.entry.item b.item ≡ false) row a.0, all_differ row a.1)
 
   module _ (laws : Equivalence same) where
-    turned : (x y : T) → same x y ≡ same y x
-    turned x y = go (same x y) refl
-      where
-        go : (b : Bool) → same x y ≡ b → b ≡ same y x
-        go true t = sym (laws.symmetric x y t)
-        go false t = sym (flipped same laws x y t)
-
     -- Looking an item up in a row with one entry put in.
     place_put : {e : Placed T} {rest row : List (Placed T)} → Put e rest row → Each (Differ e) rest → (y : T) → place_in same row y ≡ cond (same e.entry.item y) (Some e.place) (place_in same rest y)
     place_put here a y = refl
@@ -149,7 +139,7 @@ module _ {T : Type 0} (same : T → T → Bool) where
     no_place : (x y : T) (row : List (Placed T)) → Each (λ e. same x e.entry.item ≡ false) row → same x y ≡ true → place_in same row y ≡ None
     no_place x y [] a t = refl
     no_place x y (f ∷ row) a t =
-        cond-false (same f.entry.item y) _ _ (false_since (same f.entry.item y) (λ u. both_ways (same x f.entry.item) a.0 (laws.transitive x y f.entry.item t (laws.symmetric f.entry.item y u)))) ∙ no_place x y row a.1 t
+        cond-false (same f.entry.item y) _ _ (false_from_ne_true (same f.entry.item y) (λ u. both_ways (same x f.entry.item) a.0 (laws.transitive x y f.entry.item t (laws.symmetric f.entry.item y u)))) ∙ no_place x y row a.1 t
 
     from_item : (x : T) (row : List (Placed T)) → Each (λ e. same e.entry.item x ≡ false) row → Each (λ e. same x e.entry.item ≡ false) row
     from_item x row a = All-weaker (λ e. same e.entry.item x ≡ false) (λ e. same x e.entry.item ≡ false) (λ e t. flipped same laws e.entry.item x t) row a
@@ -218,21 +208,21 @@ module _ {T : Type 0} (same : T → T → Bool) where
         where
           -- The first entry has left.
           rest : (e : Placed T) (r : List (Placed T)) → Each (Differ e) r → (b c : Bool) → same y e.entry.item ≡ b → same e.entry.item y ≡ c → place_in same r y ≡ cond b None (cond c (Some e.place) (place_in same r y))
-          rest e r a true c t u = no_place e.entry.item y r a (sym (turned y e.entry.item) ∙ t)
-          rest e r a false true t u = absurd (both_ways (same y e.entry.item) t (turned y e.entry.item ∙ u))
+          rest e r a true c t u = no_place e.entry.item y r a (sym (turned same laws y e.entry.item) ∙ t)
+          rest e r a false true t u = absurd (both_ways (same y e.entry.item) t (turned same laws y e.entry.item ∙ u))
           rest e r a false false t u = refl
 
           over : (r : List (Placed T)) → Pairwise Differ r → Each (λ e. same e.entry.item x ≡ false) r → 1 ≤ length r → place_in same (overtaken x r) y ≡ find_overtaken same x r (place_in same r) y
           over [] a n l = absurd (omega arith)
           over (e ∷ r) a n l =
               place_put (put_insert (put e.place x (e.entry.count + 1) e.entry.count) r) (from_item x r n.1) y ∙
-              ap (λ b. cond b (Some e.place) (place_in same r y)) (turned x y) ∙
+              ap (λ b. cond b (Some e.place) (place_in same r y)) (turned same laws x y) ∙
               ap (λ q. cond (same y x) (Some e.place) q) (rest e r a.0 (same y e.entry.item) (same e.entry.item y) refl refl)
 
           go : (b : Bool) → ltb (length row) m ≡ b → place_in same (cond b (insert (put (length row) x 1 0) row) (overtaken x row)) y ≡ cond b (with_item same x (length row) (place_in same row)) (find_overtaken same x row (place_in same row)) y
           go true t =
               place_put (put_insert (put (length row) x 1 0) row) (from_item x row (missing x row eq).0) y ∙
-              ap (λ b. cond b (Some (length row)) (place_in same row y)) (turned x y)
+              ap (λ b. cond b (Some (length row)) (place_in same row y)) (turned same laws x y)
           go false t = over row apart (missing x row eq).0 (omega (arith, ltb-false (length row) m t))
 
       -- ---- nothing is foreign

@@ -1,10 +1,13 @@
 -- What is read off the row machine's row, written as lines, is true of its hits.
-use Rattle.std.proofs.Common.{◌≡◌, ℕ, ◌<◌, ◌≤◌, min, Bool, true, false, cond, ◌||◌, List, [], ◌∷◌, map, length, take, drop, is_some, Some, sym, refl, ap, ◌∙◌, subst, arith, length-append, length-drop}
+use Rattle.std.proofs.Common.{◌≡◌, ℕ, ◌<◌, ◌≤◌, min, Bool, true, false, ◌||◌, List, [], ◌∷◌, map, length, take, drop, sym, refl, ap, ◌∙◌, subst, arith, length-append, length-drop}
 use lib.ListN.{length-map}
 use lib.Seq.{take-append_seam, drop-append_seam}
 use Rattle.std.specs.List.{AllByRecursion as Each}
 use Rattle.std.proofs.lemmas.List.{take-map, length-reverse}
 use Rattle.std.proofs.ByRecursion.{All-map}
+use Rattle.rows.proofs.Sameness.{some_first}
+use Rattle.rows.proofs.Lists.{pairwise_map}
+use Rattle.links.proofs.Alls.{all_every}
 use Rattle.rows.specs.declared.entry.Entry.{Entry}
 use Rattle.rows.specs.Row.{row_after, hits_of, entry_of}
 use Rattle.rows.specs.Questions.{by_position, threshold, frequent, sure, top, listed}
@@ -12,16 +15,6 @@ use Rattle.rows.specs.Promises.{Pairwise, SmallestFrom, ClearOfRest, KeptPromise
 use Rattle.calls.specs.declared.answers.Line.{Line}
 use Rattle.calls.specs.Lists.{line, written, frequent_lines, frequent_answer, top_lines, top_answer}
 use Rattle.calls.specs.Truth.{entries_of, WrittenFirst, in_lines, TrueFrequentLines, TrueTopLines}
-
--- ---- lists
-
-all_from_each : {X : Type 0} (P : X → Type 0) → ((x : X) → P x) → (xs : List X) → Each P xs
-all_from_each P f [] = tt
-all_from_each P f (x ∷ xs) = (f x, all_from_each P f xs)
-
-pairwise_map : {X Y : Type 0} (f : X → Y) (R : Y → Y → Type 0) (xs : List X) → Pairwise (λ x y. R (f x) (f y)) xs → Pairwise R (map f xs)
-pairwise_map f R [] a = tt
-pairwise_map f R (x ∷ xs) a = (All-map (R (f x)) f xs a.0, pairwise_map f R xs a.1)
 
 -- ---- entries as lines, whatever their marks
 
@@ -35,11 +28,7 @@ module _ {T : Type 0} (mark : Entry T → Bool) where
 
   in_marked : (same : T → T → Bool) (x : T) (es : List (Entry T)) → in_lines same x (map marked es) ≡ listed same x es
   in_marked same x [] = refl
-  in_marked same x (e ∷ es) = go (in_marked same x es) (same e.item x)
-    where
-      go : in_lines same x (map marked es) ≡ listed same x es → (b : Bool) → (b || in_lines same x (map marked es)) ≡ is_some (cond b (Some e) (entry_of same x es))
-      go ih true = refl
-      go ih false = ih
+  in_marked same x (e ∷ es) = ap (λ b. same e.item x || b) (in_marked same x es) ∙ sym (some_first (same e.item x) e (entry_of same x es))
 
 -- ---- the lines that are written
 
@@ -71,7 +60,7 @@ module _ {T : Type 0} (same : T → T → Bool) (m : ℕ) (hits : List T) (rows 
         first_positions = entries_marked (sure t) es ∙ k.first_positions ∙ ap (λ n. take n (by_position row)) number;
         reaching = All-map (λ l. t ≤ l.count) (marked (sure t)) es k.reaching;
         no_more = subst (λ n. Each (λ e. e.count < t) (drop n (by_position row))) number k.no_more;
-        sure_exactly = All-map _ (marked (sure t)) es (all_from_each _ k.sure_exactly es);
+        sure_exactly = All-map _ (marked (sure t)) es (all_every _ k.sure_exactly es);
         sure_lines = All-map (λ l. l.sure ≡ true → t ≤ hits_of same hits l.item) (marked (sure t)) es k.sure_lines;
         complete_exactly = k.complete_exactly;
         omits_none = λ c x h. in_marked (sure t) same x es ∙ k.omits_none c x h;
@@ -88,7 +77,7 @@ module _ {T : Type 0} (same : T → T → Bool) (m : ℕ) (hits : List T) (rows 
       record {
         number = refl;
         first_positions = entries_marked unmarked es ∙ l.first_positions ∙ ap (λ n. take n (by_position row)) number;
-        never_sure = All-map (λ n. n.sure ≡ false) (marked unmarked) es (all_from_each _ (λ e. refl) es);
+        never_sure = All-map (λ n. n.sure ≡ false) (marked unmarked) es (all_every _ (λ e. refl) es);
         guaranteed_means = λ g. subst (SmallestFrom (min k (length row)) (length row) (ClearOfRest m row)) number (l.guaranteed_means g);
         guaranteed_given = l.guaranteed_given;
         otherwise_all = λ g. sym number ∙ ap length (l.otherwise_all g) ∙ length-reverse row;
@@ -96,5 +85,5 @@ module _ {T : Type 0} (same : T → T → Bool) (m : ℕ) (hits : List T) (rows 
         ordered_exactly = l.ordered_exactly;
         never_rising = λ o.
             subst (Pairwise (λ a b. hits_of same hits b.item ≤ hits_of same hits a.item)) (sym (take-map (marked unmarked) k es))
-            (pairwise_map (marked unmarked) (λ a b. hits_of same hits b.item ≤ hits_of same hits a.item) (take k es) (l.never_rising o));
+            (pairwise_map (λ a b. hits_of same hits b.item ≤ hits_of same hits a.item) (marked unmarked) (take k es) (l.never_rising o));
       }

@@ -1,12 +1,12 @@
 -- What a watched hit answers is told from the item that was hit and the last of the first k positions.
 use Rattle.std.proofs.Common.{◌≡◌, ℕ, zero, suc, ◌+◌, ◌≤◌, Bool, true, false, cond, not, eqb, ltb, leb, ◌⊎◌, List, [], ◌∷◌, ◌++◌, length, take, is_some, Some, None, Option, sym, refl, ap, ◌∙◌, subst, inl, inr, arith, length-take}
-use mathlib.Core.List.{reverse_aux}
 use lib.ListN.{length-map}
 use lib.Seq.{take-append-le}
 use Rattle.std.specs.List.{AllByRecursion as Each}
 use Rattle.std.proofs.lemmas.List.{reverse-append, length-reverse}
 use Rattle.std.proofs.ByRecursion.{All-weaker}
-use Rattle.std.proofs.lemmas.Bool.{both_ways, cond-true, cond-false, leb-true, leb-false, ltb-false, not-false, or_parts}
+use Rattle.std.proofs.lemmas.Bool.{both_ways, cond-true, cond-false, ltb-false, not-false, or_parts, false_from_ne_true, cases_lt, or_right}
+use mathlib.Core.Path.{Σ_path}
 use Rattle.items.specs.Sameness.{Equivalence}
 use Rattle.rows.specs.declared.entry.Entry.{Entry}
 use Rattle.rows.specs.Row.{entry, raised, insert, entry_of}
@@ -14,25 +14,17 @@ use Rattle.rows.specs.Questions.{by_position, listed, first_new, watched}
 use Rattle.rows.specs.Promises.{Sorted}
 use Rattle.rows.proofs.Lists.{all_both}
 use Rattle.rows.proofs.Put.{Put, here, there, put_insert, put_length, all_out, all_in}
-use Rattle.rows.proofs.Sameness.{false_since, listed_put, listed_alike}
-use Rattle.rows.proofs.Fronts.{Change, unchanged, swapped, grown, ChangedBy, changed_by_moving, changed_by_joining}
+use Rattle.rows.proofs.Sameness.{listed_put, listed_alike, some_first}
+use Rattle.rows.proofs.Fronts.{Change, unchanged, swapped, grown, ChangedBy, changed_by_moving, changed_by_joining, put_reverse_onto}
 use Rattle.table.specs.Placed.{Placed, entries, put, at_place, off_place, raised as raised_placed, entered, overtaken, step, placed_entry}
 use Rattle.calls.specs.Foreign.{holds, foreign_first, foreign_hit}
 use Rattle.calls.specs.Calls.{entry_at}
 use Rattle.calls.specs.Watching.{last_item, form_of, entered_by, left_by, told}
-use Rattle.calls.proofs.Stepping.{none_is_not_some, entries_insert}
+use Rattle.calls.proofs.Stepping.{entries_insert}
 
 -- ---- the first ones of a list with one put in
 
 module _ {X : Type 0} where
-  put_onto : {new : X} (front : List X) {before after : List X} → Put new before after → Put new (reverse_aux front before) (reverse_aux front after)
-  put_onto [] p = p
-  put_onto (f ∷ front) p = put_onto front (there p)
-
-  put_reverse_onto : {new : X} {rest row : List X} → Put new rest row → (behind : List X) → Put new (reverse_aux rest behind) (reverse_aux row behind)
-  put_reverse_onto (here {rest}) behind = put_onto rest here
-  put_reverse_onto (there {f} p) behind = put_reverse_onto p (f ∷ behind)
-
   -- What holds of the first j + 1 holds of the first j; and of the first j without an element.
   one_less : (P : X → Type 0) (j : ℕ) (xs : List X) → Each P (take (suc j) xs) → Each P (take j xs)
   one_less P zero xs a = tt
@@ -56,30 +48,16 @@ module _ {X : Type 0} where
   put_take zero (there p) = inr refl
   put_take (suc j) (there {f} p) = elim (put_take j p) [ inl q ↦ inl (there q) | inr e ↦ inr (ap (λ xs. f ∷ xs) e) ]
 
-both : {A B : Type 0} {a a' : A} {b b' : B} → a ≡ a' → b ≡ b' → ◌≡◌ {A = A × B} (a, b) (a', b')
-both e f = cc
-
-room : (j n : ℕ) → j ≤ n → (suc j ≤ n) ⊎ (j ≡ n)
-room j n l = go (leb (suc j) n) refl
-  where
-    go : (b : Bool) → leb (suc j) n ≡ b → (suc j ≤ n) ⊎ (j ≡ n)
-    go true t = inl (leb-true (suc j) n t)
-    go false t = inr (omega (arith, leb-false (suc j) n t))
-
 module _ {T : Type 0} (same : T → T → Bool) (laws : Equivalence same) where
   -- Every entry of one list is listed in another.
   abbrev AllListed : List (Entry T) → List (Entry T) → Type 0
   AllListed es others = Each (λ e. listed same e.item others ≡ true) es
 
-  some_either : (b : Bool) (f : Entry T) (o : Option (Entry T)) → is_some o ≡ true → is_some (cond b (Some f) o) ≡ true
-  some_either true f o t = refl
-  some_either false f o t = t
-
   all_self : (es : List (Entry T)) → AllListed es es
   all_self [] = tt
   all_self (e ∷ es) = (
     ap (λ b. is_some (cond b (Some e) (entry_of same e.item es))) (laws.reflexive e.item),
-    All-weaker (λ f. listed same f.item es ≡ true) (λ f. listed same f.item (e ∷ es) ≡ true) (λ f t. some_either (same e.item f.item) e (entry_of same f.item es) t) es (all_self es),
+    All-weaker (λ f. listed same f.item es ≡ true) (λ f. listed same f.item (e ∷ es) ≡ true) (λ f t. some_first (same e.item f.item) e (entry_of same f.item es) ∙ or_right (same e.item f.item) (is_some (entry_of same f.item es)) t) es (all_self es),
   )
 
   -- ---- the first new item
@@ -103,7 +81,7 @@ module _ {T : Type 0} (same : T → T → Bool) (laws : Equivalence same) where
 
   module _ (x : T) where
     alike : (y : T) (es : List (Entry T)) → same y x ≡ true → listed same x es ≡ false → listed same y es ≡ false
-    alike y es t out = false_since (listed same y es) (λ u. both_ways (listed same x es) out (listed_alike same laws y x es t u))
+    alike y es t out = false_from_ne_true (listed same y es) (λ u. both_ways (listed same x es) out (listed_alike same laws y x es t u))
 
     to_item : (y : T) (es : List (Entry T)) → same y x ≡ true → listed same x es ≡ true → listed same y es ≡ true
     to_item y es t u = listed_alike same laws x y es (laws.symmetric y x t) u
@@ -172,7 +150,7 @@ module _ {T : Type 0} (same : T → T → Bool) (laws : Equivalence same) where
           let kept = all_both (λ f. (f ≡ e) ⊎ (listed same f.item is ≡ true)) (λ f. same f.item x ≡ true → listed same f.item is ≡ true) (λ f. listed same f.item is ≡ true)
           (λ f o g. elim o [ inl i ↦ g (ap (λ (d : Entry T). same d.item x) i ∙ t) | inr u ↦ u ]) (take j (by_position row)) either
           (one_less (λ f. same f.item x ≡ true → listed same f.item is ≡ true) j (by_position row) (none_goes change.1 change.2)) in
-          both entered (last_new j (by_position row) is kept)
+          Σ_path entered (last_new j (by_position row) is kept)
 
       -- x joins.
       pub told_joined : (row : List (Entry T)) → watched same (suc j) row (insert (entry x 1 0) row) ≡ told same (suc j) x x row (insert (entry x 1 0) row)
@@ -183,7 +161,7 @@ module _ {T : Type 0} (same : T → T → Bool) (laws : Equivalence same) where
           let t = laws.reflexive x in
           let come : Put (entry x 1 0) (by_position row) (by_position after) = put_reverse_onto (put_insert (entry x 1 0) row) [] in
           let change : ChangedBy same (suc j) x row after = changed_by_joining same (suc j) x (entry x 1 0) row t in
-          both
+          Σ_path
           (entering (entry x 1 0) t (by_position row) (by_position row) (by_position after) come (one_less (λ f. listed same f.item was ≡ true) j (by_position row) (all_self was)) (λ out away. out) (still_listed change.1 change.2))
           (last_new j (by_position row) is (fewer (λ f. listed same f.item is ≡ true) j come (all_self is)))
 
@@ -204,10 +182,10 @@ module _ {T : Type 0} (same : T → T → Bool) (laws : Equivalence same) where
           let come : Put new others (by_position after) = put_reverse_onto (put_insert new rest) [] in
           let change : ChangedBy same (suc j) x (e ∷ rest) after = changed_by_moving same (suc j) x e new rest (e ∷ rest) t here sorted (omega arith) in
           let front : take j (by_position (e ∷ rest)) ≡ take j others = ap (take j) ends ∙ take-append-le j others (e ∷ []) (omega arith) in
-          both
+          Σ_path
           (entering new t others (by_position (e ∷ rest)) (by_position after) come
           (fewer (λ f. listed same f.item was ≡ true) j gone (all_self was))
-          (λ out away. out ∙ sym (elim (room j (length others) (omega arith)) [
+          (λ out away. out ∙ sym (elim (cases_lt j (length others)) [
             | inl l ↦ ap (take (suc j)) ends ∙ take-append-le (suc j) others (e ∷ []) l
             | inr q ↦ absurd (let a = ap length out in let b = length-take (suc j) (by_position after) in let c = length-take (suc j) others in let d = put_length come in omega arith)
           ]))
@@ -217,7 +195,7 @@ module _ {T : Type 0} (same : T → T → Bool) (laws : Equivalence same) where
   -- ---- a hit on the placed row
 
   put_at : (p : ℕ) (row : List (Placed T)) (e : Placed T) → at_place p row ≡ Some e → Put e.entry (entries (off_place p row)) (entries row)
-  put_at p [] e is = absurd (none_is_not_some is)
+  put_at p [] e is = absurd cc
   put_at p (f ∷ row) e is = go (eqb p f.place) (put_at p row e) is
     where
       go : (b : Bool) → (at_place p row ≡ Some e → Put e.entry (entries (off_place p row)) (entries row)) → cond b (Some f) (at_place p row) ≡ Some e →

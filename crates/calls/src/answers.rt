@@ -1,8 +1,10 @@
 // What the questions answer, besides a bracket, which is the pair of its figures, lower and upper, and a watched hit,
 // which is the pair of the item that entered and the item that left.
 
+// The marks are fields of their own and no Options: the figures beside them stand whether a mark is set or not.
+
 // A line of a list.
-#[derive(Clone, Copy)]
+#[derive(Clone, Copy, Debug, PartialEq, Eq)]
 pub struct Line<T> {
     pub item: T,
     pub count: u32,
@@ -11,9 +13,9 @@ pub struct Line<T> {
     pub sure: bool,
 }
 
-#[derive(Clone, Copy)]
+#[derive(Clone, Copy, Debug, PartialEq, Eq)]
 pub struct FrequentList {
-    // How many lines the list has.
+    // How many lines the list has: it is written into lent ones, since there is no heap.
     pub lines: usize,
     // The least count that is listed.
     pub threshold: u32,
@@ -21,7 +23,7 @@ pub struct FrequentList {
     pub complete: bool,
 }
 
-#[derive(Clone, Copy)]
+#[derive(Clone, Copy, Debug, PartialEq, Eq)]
 pub struct TopList {
     pub lines: usize,
     // Guaranteed: every listed item has at least as many hits as every item that is not listed.

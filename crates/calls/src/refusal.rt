@@ -2,39 +2,31 @@
 ghost use Rattle.std.specs.Prelude.{◌≡◌};
 ghost use Rattle.calls.specs.Refusals.{number_of};
 
-#[derive(Clone, Copy)]
+// Each refusal's value is its number.
+#[derive(Clone, Copy, Debug, PartialEq, Eq, Hash)]
 pub enum Refusal {
     // No places were supplied, or more than 512.
-    Size,
+    Size = 1,
     // The finder has less room than there are places.
-    Capacity,
+    Capacity = 2,
     // The finder holds something already.
-    Occupied,
+    Occupied = 3,
     // As many hits were accepted as can be counted.
-    Limit,
+    Limit = 4,
     // The number of positions asked for is 0, or above the number of places.
-    Rank,
+    Rank = 5,
     // The support p/q has p = 0, p above q, or q above 1,000,000.
-    Support,
+    Support = 6,
     // The list is longer than the lines supplied.
-    Lines,
+    Lines = 7,
     // Foreign: the finder does not belong to the summary.
-    Foreign,
+    Foreign = 8,
 }
 
-impl Refusal {
-    pub fn number(self) -> u8
-        ensures { result ≡ number_of self }
-    {
-        match self {
-            Refusal::Size => 1,
-            Refusal::Capacity => 2,
-            Refusal::Occupied => 3,
-            Refusal::Limit => 4,
-            Refusal::Rank => 5,
-            Refusal::Support => 6,
-            Refusal::Lines => 7,
-            Refusal::Foreign => 8,
-        }
+impl From<Refusal> for u8 {
+    ghost from_gives = { λ refusal number. number ≡ number_of refusal };
+
+    fn from(refusal: Refusal) -> u8 {
+        refusal as u8
     }
 }

@@ -1,3 +1,3 @@
-pub mod Sets
 pub mod Hits
+pub mod Showings
 pub mod Structures

@@ -1,9 +1,11 @@
 -- What the counters stand for, and what a move of them is.
-use Rattle.std.specs.Prelude.{◌≡◌, ℕ, ◌+◌, Bool, true, false, List, length}
+use Rattle.std.specs.Prelude.{◌≡◌, ℕ, ◌+◌, Bool, cond, List, length, Ok, Err, Result, nat_lt}
 use Rattle.table.specs.Placed.{Placed}
 use Rattle.table.specs.Reading.{placed_row}
 use Rattle.table.specs.Structure.{Structure}
 use Rattle.counters.specs.declared.counters.Counters.{Counters}
+use Rattle.counters.specs.declared.counters.unmoved.Unmoved.{Unmoved}
+use Rattle.counters.specs.declared.counters.unmoved.Unmoved.TheVariants.{NoCounter, AtLimit}
 
 -- How many places there are.
 abbrev pub size : {T : Type 0} → Counters T → ℕ
@@ -21,9 +23,12 @@ Structured s = Structure s.table.places.now s.table.lists (length (placed s)) s.
 abbrev pub limit : ℕ
 limit = 4294967295
 
--- One hit: if it was made, the placed row is then the one given and the total one more; if not, nothing has changed.
-pub record Moved {T : Type 0} (before after : Counters T) (made : Bool) (given : List (Placed T)) : Type 0 where
+-- Whether a move is made: there must be a counter for it, and the total below its limit.
+abbrev pub moved_if : Bool → ℕ → Result (Unit {0}) Unmoved
+moved_if counter total = cond counter (cond (nat_lt total limit) (Ok tt) (Err AtLimit)) (Err NoCounter)
+
+-- One hit: the placed row is then the one given, and the total one more.
+pub record Moved {T : Type 0} (before after : Counters T) (given : List (Placed T)) : Type 0 where
   pub places : size after ≡ size before
-  pub row : made ≡ true → placed after ≡ given
-  pub total : made ≡ true → after.total ≡ before.total + 1
-  pub refused : made ≡ false → after ≡ before
+  pub row : placed after ≡ given
+  pub total : after.total ≡ before.total + 1

@@ -2,13 +2,15 @@
 ghost use Rattle.std.specs.Prelude.{ℕ, ◌≤◌, length};
 ghost use Rattle.table.specs.Stands.{Stands};
 
-use crate::counters::linked::Table;
+use table::Table;
 
-mod linked;
 pub mod moves;
 pub mod reads;
+mod token;
+pub mod unmoved;
 
 /// The counters of a summary. The places below `used` have counters in use, and no count is above `total`.
+// How many are in use stands beside the places, since these are lent: there is no heap to hold the counters in.
 #[derive(Drop)]
 pub struct Counters<'a, T> {
     table: Table<'a, T>,

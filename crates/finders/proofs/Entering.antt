@@ -1,11 +1,15 @@
 -- What the bindings at the front of the slots stand for after one is entered, and after one has left.
-use Rattle.std.proofs.Common.{◌≡◌, ℕ, ◌+◌, ◌<◌, ◌≤◌, Bool, true, List, length, get_or, take, set, None, sym, refl, ap, ◌∙◌, arith}
+use Rattle.std.proofs.Common.{◌≡◌, ℕ, ◌+◌, ◌<◌, ◌≤◌, Bool, true, List, [], ◌∷◌, ◌++◌, length, get_or, take, set, Ok, subst, sym, refl, ap, ◌∙◌, arith, length-take}
+use Rattle.std.proofs.lemmas.List.{get_or-take}
 use Rattle.items.specs.Sameness.{Equivalence}
 use Rattle.finders.specs.declared.finder.Binding.{Binding}
 use Rattle.finders.specs.Lookup.{lookup, Apart}
+use Rattle.finders.specs.Refusals.{unless_refused, enter_refusal}
+use Rattle.finders.specs.Search.{FoundAt}
 use Rattle.finders.specs.Calls.{Entered, Left}
 use Rattle.items.proofs.Put.{Put, put_length}
 use Rattle.finders.proofs.Bindings.{lacking, lookup_out, apart_out, apart_in, entered, left}
+use Rattle.finders.proofs.Refusing.{admitted}
 use Rattle.finders.proofs.Slots.{Moved, stays, moves, Closed, put_push, closed}
 
 module _ {Item : Type 0} (same : Item → Item → Bool) (laws : Equivalence same) where
@@ -30,24 +34,32 @@ module _ {Item : Type 0} (same : Item → Item → Bool) (laws : Equivalence sam
         number = ap (λ n. n + 1) (length_moved moved) ∙ gone.number;
       }
 
-  -- The slots before and after, and how many of them were held before.
-  module _ (slots slots' : List (Binding Item)) (held : ℕ) where
-    module _ (held' : ℕ) (b : Binding Item) (spare : held < length slots) (wrote : slots' ≡ set slots held b) (more : held' ≡ held + 1) (absent : lookup same (take held slots) b.item ≡ None) (apart : Apart same (take held slots)) where
-      pushed : Put b (take held slots) (take held' slots')
-      pushed = rw (wrote, more) (put_push slots held b spare)
+  -- A binding that is not refused stands behind the others now.
+  module _ (before after : List (Binding Item)) (room : ℕ) (b : Binding Item) (behind : after ≡ before ++ b ∷ []) (ok : Ok tt ≡ unless_refused (enter_refusal same before room b.item)) (apart : Apart same before) where
+    pushed : Put b before after
+    pushed = rw behind (put_push before b)
 
-      pub apart_entered : Apart same (take held' slots')
-      apart_entered = apart_in same laws pushed (lacking same (take held slots) b.item absent) apart
+    pub apart_entered : Apart same after
+    apart_entered = apart_in same laws pushed (lacking same before b.item (admitted (lookup same before b.item) (length before) room ok).0) apart
 
-      pub entered_front : Entered same (take held slots) b.item b.place (take held' slots')
-      entered_front = entered same laws pushed apart_entered
+    pub entered_front : Entered same before b.item b.place after
+    entered_front = entered same laws pushed apart_entered
 
-    module _ (held' i : ℕ) (x : Item) (d : Binding Item) (inside : i < held) (fits : held ≤ length slots) (wrote : slots' ≡ set slots i (get_or slots held' d)) (less : held' + 1 ≡ held) (apart : Apart same (take held slots)) where
-      gone : Closed (get_or slots i d) (take held slots) (take held' slots')
-      gone = rw (wrote, sym less) (closed slots held' i d (omega arith) (omega arith))
+  -- Of the slots at the front, the last was written over the one at i.
+  module _ (slots slots' : List (Binding Item)) (held held' i : ℕ) (x : Item) (wrote : (d : Binding Item) → slots' ≡ set slots i (get_or slots held' d)) (less : held' + 1 ≡ held) (fits : held ≤ length slots) (at : FoundAt same (take held slots) x i) (apart : Apart same (take held slots)) where
+    d : Binding Item
+    d = record { item = x; place = 0 }
 
-      pub apart_left : Apart same (take held' slots')
-      apart_left = apart_moved gone.moved (apart_out same laws gone.out apart).1
+    inside : i < held
+    inside = omega (arith, at.inside, length-take held slots)
 
-      pub left_front : same x (get_or slots i d).item ≡ true → Left same (take held slots) x (take held' slots')
-      left_front found = left_moved gone.out gone.moved apart x found
+    gone : Closed (get_or slots i d) (take held slots) (take held' slots')
+    gone =
+        subst (λ zs. Closed (get_or slots i d) (take held slots) (take held' zs)) (sym (wrote d))
+        (subst (λ n. Closed (get_or slots i d) (take n slots) (take held' (set slots i (get_or slots held' d)))) less (closed slots held' i d (omega (arith, inside)) (omega (arith, inside))))
+
+    pub apart_left : Apart same (take held' slots')
+    apart_left = apart_moved gone.moved (apart_out same laws gone.out apart).1
+
+    pub left_front : Left same (take held slots) x (take held' slots')
+    left_front = left_moved gone.out gone.moved apart x (ap (λ (b : Binding Item). same x b.item) (sym (get_or-take held slots i d inside)) ∙ at.hits d)

@@ -1,5 +1,5 @@
 -- When enter and leave are not refused, and what that tells.
-use Rattle.std.proofs.Common.{◌≡◌, ℕ, ◌<◌, Bool, true, false, cond, leb, List, length, is_some, Some, None, Ok, Option, sym, refl, ap, ◌∙◌, arith}
+use Rattle.std.proofs.Common.{◌≡◌, ℕ, ◌<◌, Bool, true, false, cond, leb, List, length, is_some, Some, None, Ok, Option, sym, refl, ap, ◌∙◌}
 use Rattle.std.proofs.lemmas.Bool.{cond-true, cond-false, lt-leb, leb-false}
 use Rattle.finders.specs.declared.finder.Binding.{Binding}
 use Rattle.finders.specs.Lookup.{lookup}
@@ -8,11 +8,11 @@ use Rattle.finders.specs.declared.refusal.Refusal.TheVariants.{Full}
 
 -- An item that is not refused is found nowhere, and there is room for it.
 pub admitted : (found : Option ℕ) (held room : ℕ) → Ok tt ≡ unless_refused (enter_refusal_at found held room) → (found ≡ None) × (held < room)
-admitted (Some place) held room ok = let z : ◌≡◌ {A = ℕ} 0 1 = cc in absurd (omega arith)
+admitted (Some place) held room ok = absurd cc
 admitted None held room ok = (refl, by_test (leb room held) refl ok)
   where
     by_test : (t : Bool) → leb room held ≡ t → Ok tt ≡ unless_refused (cond t (Some Full) None) → held < room
-    by_test true full o = let z : ◌≡◌ {A = ℕ} 0 1 = cc in absurd (omega arith)
+    by_test true full o = absurd cc
     by_test false room-left o = leb-false room held room-left
 
 module _ {Item : Type 0} (same : Item → Item → Bool) (bs : List (Binding Item)) (x : Item) where

@@ -1,29 +1,36 @@
--- A search through bindings, one after another: what is left decides the look-up.
-use Rattle.std.proofs.Common.{◌≡◌, ℕ, ◌+◌, ◌<◌, ◌≤◌, Bool, true, false, cond, List, length, get_or, drop, Some, None, sym, ap, ◌∙◌}
-use Rattle.std.proofs.lemmas.List.{at_drop_more, at_drop_all, get_or_read}
-use Rattle.std.proofs.lemmas.Bool.{cond-true, cond-false}
+-- A search through bindings: the first of the same item is the one that the look-up finds.
+use Rattle.std.proofs.Common.{◌≡◌, ℕ, ◌<◌, ◌≤◌, Bool, List, [], ◌∷◌, length, Some, None, Option, MatchOption, sym, refl, arith}
+use Rattle.std.proofs.lemmas.Grind.{common_steps}
+use Rattle.std.proofs.lemmas.List.Quantifiers.{position-Some}
+use Rattle.std.proofs.lemmas.List.Recursion.{found_at, found_nowhere}
+use Rattle.std.proofs.lemmas.List.Sums.{fails_before_first}
+use Rattle.std.specs.List.{position, position_or_len}
 use Rattle.finders.specs.declared.finder.Binding.{Binding}
 use Rattle.finders.specs.Lookup.{lookup}
 use Rattle.finders.specs.Search.{FoundAt}
 
-module _ {Item : Type 0} (same : Item → Item → Bool) (bs : List (Binding Item)) (x : Item) where
-  -- None of the first i bindings is of x.
-  abbrev pub Passed : ℕ → Type 0
-  Passed i = lookup same (drop i bs) x ≡ lookup same bs x
+module _ {Item : Type 0} (same : Item → Item → Bool) (x : Item) where
+  past_all : (bs : List (Binding Item)) → position (λ b. same x b.item) bs ≡ None → length bs ≤ position_or_len (λ b. same x b.item) bs
+  past_all bs none = grind (arith, common_steps)
 
-  from : (i : ℕ) (d : Binding Item) → i < length bs → lookup same (drop i bs) x ≡ cond (same x (get_or bs i d).item) (Some (get_or bs i d).place) (lookup same (drop (i + 1) bs) x)
-  from i d inside = at_drop_more (λ cs. lookup same cs x) bs i d inside
+  absent : (bs : List (Binding Item)) → position (λ b. same x b.item) bs ≡ None → lookup same bs x ≡ None
+  absent [] none = refl
+  absent (b ∷ bs) none =
+      found_nowhere (λ cs. lookup same cs x) (λ c. same x c.item) (λ c. Some c.place) None refl (λ _ _. refl) (b ∷ bs) b
+      (λ k inside. fails_before_first (λ c. same x c.item) (b ∷ bs) k b (omega (arith, past_all (b ∷ bs) none)))
 
-  pub hit : (i : ℕ) (b : Binding Item) → i < length bs → Passed i → b ≡ get_or bs i b → same x b.item ≡ true → FoundAt same bs x i
-  hit i b inside passed read t = record { inside = inside; hits = hits; reads = λ d. sym passed ∙ from i d inside ∙ cond-true _ _ _ (hits d) }
-    where
-      hits : (d : Binding Item) → same x (get_or bs i d).item ≡ true
-      hits d = ap (λ (c : Binding Item). same x c.item) (sym (get_or_read bs i b inside read d)) ∙ t
+  within : (bs : List (Binding Item)) (i : ℕ) → position (λ b. same x b.item) bs ≡ Some i → i < length bs
+  within bs i at = grind (arith, common_steps)
 
-  pub miss : (i : ℕ) (b : Binding Item) → i < length bs → Passed i → b ≡ get_or bs i b → same x b.item ≡ false → Passed (i + 1)
-  miss i b inside passed read f =
-      let other : same x (get_or bs i b).item ≡ false = ap (λ (c : Binding Item). same x c.item) (sym read) ∙ f in
-      sym (cond-false _ _ _ other) ∙ sym (from i b inside) ∙ passed
+  found : (bs : List (Binding Item)) (i : ℕ) → position (λ b. same x b.item) bs ≡ Some i → FoundAt same bs x i
+  found bs i at =
+      let first = λ (d : Binding Item). position-Some (λ b. same x b.item) bs i d at in
+      record {
+        inside = within bs i at;
+        hits = λ d. (first d).1;
+        reads = λ d. found_at (λ cs. lookup same cs x) (λ b. same x b.item) (λ b. Some b.place) None refl (λ _ _. refl) bs i d (first d).0 (first d).2 (first d).1;
+      }
 
-  pub nowhere : (i : ℕ) → length bs ≤ i → Passed i → lookup same bs x ≡ None
-  nowhere i end passed = sym passed ∙ at_drop_all (λ cs. lookup same cs x) bs i end
+  pub searched : (bs : List (Binding Item)) (r : Option ℕ) → r ≡ position (λ b. same x b.item) bs → MatchOption r (lookup same bs x ≡ None) (FoundAt same bs x)
+  searched bs None none = absent bs (sym none)
+  searched bs (Some i) at = found bs i (sym at)

@@ -1,16 +1,14 @@
 -- The front of a row of slots: one binding put behind it, or the last put in the place of one that leaves.
 use Rattle.std.proofs.Common.{◌≡◌, ℕ, suc, ◌+◌, ◌<◌, ◌≤◌, List, [], ◌∷◌, ◌++◌, length, get_or, take, drop, set, sym, ap, ◌∙◌, subst, ⊎_elim, arith}
 use lib.Seq.{take-set-lt}
-use Rattle.std.proofs.lemmas.List.{take_more, take_more_set, take-set-le, append-nil, set_split, set-get_or, append_assoc, length-take-le, get_or-take}
+use Rattle.std.proofs.lemmas.List.{take_more, take-set-le, append-nil, set_split, set-get_or, append_assoc, length-take-le, get_or-take}
 use Rattle.std.proofs.lemmas.Bool.{cases_lt}
 use Rattle.items.proofs.Put.{Put, put_between}
 
 module _ {X : Type 0} where
-  -- One more behind the first n.
-  pub put_push : (xs : List X) (n : ℕ) (e : X) → n < length xs → Put e (take n xs) (take (n + 1) (set xs n e))
-  put_push xs n e inside =
-      subst (Put e (take n xs)) (sym (take_more_set xs n e inside))
-      (subst (λ rest. Put e rest (take n xs ++ e ∷ [])) (append-nil (take n xs)) (put_between (take n xs) []))
+  -- One more behind the others.
+  pub put_push : (xs : List X) (e : X) → Put e xs (xs ++ e ∷ [])
+  put_push xs e = subst (λ rest. Put e rest (xs ++ e ∷ [])) (append-nil xs) (put_between xs [])
 
   -- Two lists with the same elements: one of them moved, or none.
   pub data Moved : List X → List X → Type 0 where
@@ -36,7 +34,7 @@ module _ {X : Type 0} where
   closed_end : (front : List X) (e : X) → Closed e (front ++ e ∷ []) front
   closed_end front e = record {
     rest = front;
-    out = subst (λ zs. Put e zs (front ++ e ∷ [])) (append-nil front) (put_between front []);
+    out = put_push front e;
     moved = stays;
   }
 

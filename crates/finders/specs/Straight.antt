@@ -4,8 +4,8 @@ use Rattle.finders.specs.declared.finder.Binding.{Binding}
 use Rattle.finders.specs.declared.straight.StraightFinder.{StraightFinder}
 
 abbrev pub bindings_of : {Item : Type 0} → StraightFinder Item → List (Binding Item)
-bindings_of f = take f.front.held f.front.slots.now
+bindings_of f = take f.held f.slots.now
 
 -- One binding fits each slot.
 abbrev pub room_of : {Item : Type 0} → StraightFinder Item → ℕ
-room_of f = length f.front.slots.now
+room_of f = length f.slots.now

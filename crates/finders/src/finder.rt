@@ -9,7 +9,7 @@ use crate::refusal::Refusal;
 use items::kind::Kind;
 
 // An item and the place that it is found at.
-#[derive(Clone, Copy)]
+#[derive(Clone, Copy, Debug, PartialEq, Eq, Hash)]
 pub struct Binding<T> {
     pub item: T,
     pub place: usize,

@@ -5,28 +5,24 @@ ghost use Rattle.finders.specs.Refusals.{number_of, unless_refused, make_refusal
 // The most slots that a finder is made over.
 pub const MOST_SLOTS: usize = 1024;
 
-#[derive(Clone, Copy)]
+// Each refusal's value is its number. It has no text here: what an item is called is for the program to say.
+#[derive(Clone, Copy, Debug, PartialEq, Eq, Hash)]
 pub enum Refusal {
     // The same item is held already.
-    Held,
+    Held = 12,
     // As many items are held as fit.
-    Full,
+    Full = 13,
     // No same item is held.
-    Absent,
+    Absent = 14,
     // No slots were supplied, or more than 1,024.
-    Slots,
+    Slots = 15,
 }
 
-impl Refusal {
-    pub fn number(self) -> u8
-        ensures { result ≡ number_of self }
-    {
-        match self {
-            Refusal::Held => 12,
-            Refusal::Full => 13,
-            Refusal::Absent => 14,
-            Refusal::Slots => 15,
-        }
+impl From<Refusal> for u8 {
+    ghost from_gives = { λ refusal number. number ≡ number_of refusal };
+
+    fn from(refusal: Refusal) -> u8 {
+        refusal as u8
     }
 }
 

@@ -1,68 +1,24 @@
 -- Slots that are all made free: one chain, from the last slot down to the first.
-use Rattle.std.proofs.Common.{◌≡◌, ℕ, zero, suc, ◌+◌, ◌<◌, ◌≤◌, Bool, false, cond, eqb, List, [], ◌∷◌, map, length, get_or, set, None, Option, sym, refl, ap, ◌∙◌, subst, inl, inr, ⊎_elim, arith}
+use Rattle.std.proofs.Common.{◌≡◌, ℕ, zero, suc, ◌<◌, ◌≤◌, cond, eqb, List, [], ◌∷◌, map, length, get_or, Some, None, Option, sym, refl, ap, ◌∙◌, inl, inr, ⊎_elim, arith}
 use lib.ListN.{length-map}
-use Rattle.std.proofs.lemmas.List.{get_or-set_same, get_or-set_other, get_or_past}
-use Rattle.std.proofs.lemmas.Bool.{cond_both, cond-true, cond-false, cases_eq, cases_lt, eqb-true, eq-eqb, ne_eqb}
+use Rattle.std.proofs.Math.ListN.{get_or-map}
+use Rattle.std.proofs.lemmas.List.{get_or_past}
+use Rattle.std.proofs.lemmas.Bool.{cond_both, cases_eq, cases_lt, eqb-true, eq-eqb, ne_eqb}
 use Rattle.hashed.specs.declared.slot.Entry.{Entry}
 use Rattle.hashed.specs.declared.slot.Slot.{Slot}
 use Rattle.hashed.specs.Chains.{In, Path}
-use Rattle.hashed.specs.Slots.{entries, links, heads, bindings_in, chain_of, Sound}
-use Rattle.hashed.specs.Steps.{Columns, spent, used_at, below, Cleared}
-use Rattle.hashed.proofs.Columns.{at_written, at_other}
+use Rattle.hashed.specs.Slots.{vacant_slot, entries, links, heads, bindings_in, chain_of, Sound}
+use Rattle.hashed.specs.Steps.{entry_at, below, Cleared}
 
--- ---- one slot more
+module _ {T : Type 0} where
+  -- The chain of a slot, by its entry.
+  pub own_by_entry : (n : ℕ) (es : List (Option (Entry T))) (i : ℕ) → get_or (map (chain_of n) es) i n ≡ chain_of n (entry_at es i)
+  own_by_entry n es i = get_or-map (chain_of n) es i None
 
-pub cleared_none : {T : Type 0} (t : List (Slot T)) → Cleared t 0
-cleared_none t = record { unused = λ i l. absurd (omega arith); linked = λ i l. absurd (omega arith); headless = λ i l. absurd (omega arith) }
-
-first_entry : {T : Type 0} (t : List (Slot T)) → 0 < length t → Entry T
-first_entry [] l = absurd (omega arith)
-first_entry (s ∷ t) l = s.entry
-
--- What a write at i leaves true of the fields up to i.
-one_more : {Y : Type 0} (P : ℕ → Y → Type 0) (before after : ℕ → Y) (i : ℕ) → P i (after i) → ((j : ℕ) → (j ≡ i → ⊥) → after j ≡ before j) → ((j : ℕ) → j < i → P j (before j)) → (j : ℕ) → j < i + 1 → P j (after j)
-one_more {Y} P before after i here other below' j l =
-    ⊎_elim
-    (λ (e : j ≡ i). let Q : ℕ → Type 0 = λ k. P k (after k) in subst Q (sym e) here)
-    (λ (ne : j ≡ i → ⊥). let Q : Y → Type 0 = λ y. P j y in subst Q (sym (other j ne)) (below' j (omega arith)))
-    (cases_eq j i)
-
-module _ {T : Type 0} (t t' : List (Slot T)) (i : ℕ) (link : Option ℕ) (inside : i < length t) (reset : (e : Entry T) → Columns t' (set (entries t) i (spent (get_or (entries t) i e))) (set (links t) i link) (set (heads t) i None)) where
-  pub cleared_more : link ≡ below i → Cleared t i → Cleared t' (i + 1)
-  cleared_more down cleared =
-      let columns = reset (first_entry t (omega arith)) in
-      let le : length (entries t) ≡ length t = length-map t (λ s. s.entry) in
-      let ll : length (links t) ≡ length t = length-map t (λ s. s.link) in
-      let lh : length (heads t) ≡ length t = length-map t (λ s. s.head) in
-      let used = ap (λ (es : List (Entry T)). map (λ e. e.used) es) columns.entered in
-      record {
-        unused =
-            one_more (λ _ b. b ≡ false) (used_at (entries t)) (used_at (entries t')) i
-            (ap (λ (bs : List Bool). get_or bs i false) used ∙ at_written (entries t) (λ e. e.used) i _ false (omega arith))
-            (λ j ne. ap (λ (bs : List Bool). get_or bs j false) used ∙ at_other (entries t) (λ e. e.used) i j _ false ne)
-            cleared.unused;
-        linked =
-            one_more (λ j o. o ≡ below j) (λ j. get_or (links t) j None) (λ j. get_or (links t') j None) i
-            (ap (λ (ls : List (Option ℕ)). get_or ls i None) columns.linked ∙ get_or-set_same (links t) i link None (omega arith) ∙ down)
-            (λ j ne. ap (λ (ls : List (Option ℕ)). get_or ls j None) columns.linked ∙ get_or-set_other (links t) i j link None ne)
-            cleared.linked;
-        headless =
-            one_more (λ _ o. o ≡ None) (λ j. get_or (heads t) j None) (λ j. get_or (heads t') j None) i
-            (ap (λ (hs : List (Option ℕ)). get_or hs i None) columns.headed ∙ get_or-set_same (heads t) i None None (omega arith))
-            (λ j ne. ap (λ (hs : List (Option ℕ)). get_or hs j None) columns.headed ∙ get_or-set_other (heads t) i j None None ne)
-            cleared.headless;
-      }
-
--- ---- all slots
-
-pub none_used : {T : Type 0} (es : List (Entry T)) → ((i : ℕ) → i < length es → used_at es i ≡ false) → bindings_in es ≡ []
-none_used [] unused = refl
-none_used (e ∷ es) unused = cond-false _ _ _ (unused 0 (omega arith)) ∙ none_used es (λ i l. unused (suc i) (omega arith))
-
-pub own_unused : {T : Type 0} (n : ℕ) (es : List (Entry T)) (i : ℕ) → used_at es i ≡ false → get_or (map (chain_of n) es) i n ≡ n
-own_unused n [] i unused = refl
-own_unused n (e ∷ es) zero unused = cond-false _ _ _ unused
-own_unused n (e ∷ es) (suc i) unused = own_unused n es i unused
+  pub none_used : (es : List (Option (Entry T))) → ((i : ℕ) → i < length es → entry_at es i ≡ None) → bindings_in es ≡ []
+  none_used [] unused = refl
+  none_used (None ∷ es) unused = none_used es (λ i l. unused (suc i) (omega arith))
+  none_used (Some e ∷ es) unused = let first : ◌≡◌ {A = Option (Entry T)} (Some e) None = unused 0 (omega arith) in cc
 
 abbrev down : ℕ → List ℕ
 down zero = []
@@ -79,22 +35,28 @@ down_in (suc n) i m = ⊎_elim (λ (e : i ≡ n). omega arith) (λ (k : In i (do
 path_down : (link : ℕ → Option ℕ) (n : ℕ) → ((i : ℕ) → i < n → link i ≡ below i) → Path link (below n) (down n)
 path_down link zero linked = refl
 path_down link (suc n) linked =
-    let P : Option ℕ → Type 0 = λ o. Path link o (down n) in
-    (refl, subst P (sym (linked n (omega arith))) (path_down link n (λ i l. linked i (omega arith))))
+    (refl, rw (linked n (omega arith)) (path_down link n (λ i l. linked i (omega arith))))
 
 module _ {T : Type 0} (t : List (Slot T)) (cleared : Cleared t (length t)) where
+  no_entry : (i : ℕ) → i < length t → entry_at (entries t) i ≡ None
+  no_entry i l = get_or-map (λ (s : Slot T). s.entry) t i vacant_slot ∙ ap (λ (s : Slot T). s.entry) (cleared i l)
+
+  linked_below : (i : ℕ) → i < length t → get_or (links t) i None ≡ below i
+  linked_below i l = get_or-map (λ (s : Slot T). s.link) t i vacant_slot ∙ ap (λ (s : Slot T). s.link) (cleared i l)
+
   pub cleared_bindings : bindings_in (entries t) ≡ []
-  cleared_bindings =
-      let long : length (entries t) ≡ length t = length-map t (λ s. s.entry) in
-      none_used (entries t) (λ i l. cleared.unused i (omega arith))
+  cleared_bindings = none_used (entries t) (λ i l. no_entry i (omega (arith, length-map t (λ s. s.entry))))
 
   no_head : (b : ℕ) → get_or (heads t) b None ≡ None
   no_head b =
-      let long : length (heads t) ≡ length t = length-map t (λ s. s.head) in
-      ⊎_elim (cleared.headless b) (λ (past : length t ≤ b). get_or_past (heads t) b None (omega arith)) (cases_lt b (length t))
+      get_or-map (λ (s : Slot T). s.head) t b vacant_slot
+      ∙ ⊎_elim
+      (λ (l : b < length t). ap (λ (s : Slot T). s.head) (cleared b l))
+      (λ (past : length t ≤ b). ap (λ (s : Slot T). s.head) (get_or_past t b vacant_slot past))
+      (cases_lt b (length t))
 
   own_free : (i : ℕ) → i < length t → get_or (map (chain_of (length t)) (entries t)) i (length t) ≡ length t
-  own_free i l = own_unused (length t) (entries t) i (cleared.unused i l)
+  own_free i l = own_by_entry (length t) (entries t) i ∙ ap (chain_of (length t)) (no_entry i l)
 
   abbrev only : ℕ → List ℕ
   only b = cond (eqb b (length t)) (down (length t)) []
@@ -107,7 +69,7 @@ module _ {T : Type 0} (t : List (Slot T)) (cleared : Cleared t (length t)) where
           ⊎_elim
           (λ (e : b ≡ length t).
           let yes' = eq-eqb b (length t) e in
-          rw (yes') (path_down (λ i. get_or (links t) i None) (length t) cleared.linked))
+          rw (yes') (path_down (λ i. get_or (links t) i None) (length t) linked_below))
           (λ (ne : b ≡ length t → ⊥). let no' = ne_eqb b (length t) ne in rw (no') (no_head b))
           (cases_eq b (length t))
 
@@ -120,5 +82,4 @@ module _ {T : Type 0} (t : List (Slot T)) (cleared : Cleared t (length t)) where
 
       whole : (i : ℕ) → i < length t → In i (only (get_or (map (chain_of (length t)) (entries t)) i (length t)))
       whole i l =
-          let P : List ℕ → Type 0 = λ xs. In i xs in
-          subst P (sym (cond-true _ _ _ (eq-eqb _ _ (own_free i l)))) (in_down (length t) i l)
+          rw (own_free i l, eq-eqb (length t) (length t) refl) (in_down (length t) i l)

@@ -1,10 +1,10 @@
 -- A slot taken out of one chain and put in front of another.
-use Rattle.std.proofs.Common.{◌≡◌, ℕ, ◌<◌, ◌≤◌, cond, eqb, ◌⊎◌, List, [], ◌∷◌, length, Some, None, Option, sym, refl, ap, ◌∙◌, subst, inl, inr, ⊎_elim}
+use Rattle.std.proofs.Common.{◌≡◌, ℕ, ◌<◌, ◌≤◌, cond, eqb, ◌⊎◌, List, [], ◌∷◌, length, Some, None, Option, sym, refl, ap, ◌∙◌, inl, inr, ⊎_elim}
 use Rattle.std.proofs.lemmas.Bool.{cond_both, cases_eq, eqb-true, eqb-false}
 use Rattle.hashed.specs.Chains.{In, Path, Chained}
 use Rattle.hashed.specs.Steps.{onto, last_of, Split}
 use Rattle.hashed.proofs.Lists.{Distinct, short, in_onto, onto_in, distinct_back, distinct_parts}
-use Rattle.hashed.proofs.Paths.{none_or_some, one_slot, path_distinct, path_kept, path_onto}
+use Rattle.hashed.proofs.Paths.{path_distinct, path_kept, path_onto}
 
 -- What the link to the slot i of the chain b becomes: the head's, or that of the slot before.
 abbrev pub Closed : (i b : ℕ) (before : Option ℕ) (link link' head head' : ℕ → Option ℕ) → Type 0
@@ -28,20 +28,20 @@ chain_short {n} {own} {link} {head} st b =
 
 module _ {n i b : ℕ} {before : Option ℕ} {own : ℕ → ℕ} {link head : ℕ → Option ℕ} (st : Chained n own link head) (split : Split (st.chain b) before i) where
   in_b : (j : ℕ) → In j (onto split.behind (i ∷ split.ahead)) → (j < n) × (own j ≡ b)
-  in_b j m = let P : List ℕ → Type 0 = λ xs. In j xs in st.inside b j (subst P (sym split.whole) m)
+  in_b j m = st.inside b j (rw split.whole m)
 
   own_i : own i ≡ b
   own_i = (in_b i (in_onto i split.behind (i ∷ split.ahead) (inr (inl refl)))).1
 
   path_b : Path link (head b) (onto split.behind (i ∷ split.ahead))
-  path_b = let P : List ℕ → Type 0 = λ xs. Path link (head b) xs in subst P split.whole (st.linked b)
+  path_b = rw split.whole at (st.linked b)
 
   distinct_b : Distinct (onto split.behind (i ∷ split.ahead))
   distinct_b = path_distinct link (head b) _ path_b
 
   in_behind : (behind : List ℕ) (j : ℕ) → last_of behind ≡ Some j → In j behind
-  in_behind [] j e = absurd (none_or_some (last_of []) j refl e)
-  in_behind (p ∷ ps) j e = inl (one_slot (Some p) j p e refl)
+  in_behind [] j e = cc
+  in_behind (p ∷ ps) j e = inl (cc)
 
   -- The slot before i is another one of its chain.
   last_in : (j : ℕ) → before ≡ Some j → In j split.behind
@@ -65,10 +65,10 @@ module _ {n i b c : ℕ} {before : Option ℕ} {own own' : ℕ → ℕ} {link li
   by_chain : (P : ℕ → List ℕ → Type 0) → P c (i ∷ st.chain c) → P b (onto split.behind split.ahead) → ((d : ℕ) → (d ≡ c → ⊥) → (d ≡ b → ⊥) → P d (st.chain d)) → (d : ℕ) → P d (chain' d)
   by_chain P at_c at_b other d =
       cond_both (eqb d c) _ _ (P d)
-      (λ t. let Q : ℕ → Type 0 = λ e. P e (i ∷ st.chain c) in subst Q (sym (eqb-true d c t)) at_c)
+      (λ t. rw (eqb-true d c t) at_c)
       (λ f.
       cond_both (eqb d b) _ _ (P d)
-      (λ t. let Q : ℕ → Type 0 = λ e. P e (onto split.behind split.ahead) in subst Q (sym (eqb-true d b t)) at_b)
+      (λ t. rw (eqb-true d b t) at_b)
       (λ h. other d (eqb-false d c f) (eqb-false d b h)))
 
   -- ---- the links that stay
@@ -82,27 +82,24 @@ module _ {n i b c : ℕ} {before : Option ℕ} {own own' : ℕ → ℕ} {link li
 
   linked_c : Path link' (head' c) (i ∷ st.chain c)
   linked_c =
-      let P : Option ℕ → Type 0 = λ o. Path link' o (st.chain c) in
-      (moved.front, subst P (sym moved.onward) (path_kept link link' (head c) (st.chain c) (λ j m. elsewhere c j (λ e. apart (sym e)) m) (st.linked c)))
+      (moved.front, rw moved.onward (path_kept link link' (head c) (st.chain c) (λ j m. elsewhere c j (λ e. apart (sym e)) m) (st.linked c)))
 
   linked_other : (d : ℕ) → (d ≡ c → ⊥) → (d ≡ b → ⊥) → Path link' (head' d) (st.chain d)
   linked_other d not-c not-b =
-      let P : Option ℕ → Type 0 = λ o. Path link' o (st.chain d) in
-      subst P (sym (moved.heads d not-c not-b)) (path_kept link link' (head d) (st.chain d) (λ j m. elsewhere d j not-b m) (st.linked d))
+      rw (moved.heads d not-c not-b) (path_kept link link' (head d) (st.chain d) (λ j m. elsewhere d j not-b m) (st.linked d))
 
   linked_b : (behind ahead : List ℕ) → Path link (head b) (onto behind (i ∷ ahead)) → Distinct (onto behind (i ∷ ahead)) → before ≡ last_of behind → Path link' (head' b) (onto behind ahead)
   linked_b [] ahead path d last =
-      let closed : head' b ≡ link i = let P : Option ℕ → Type 0 = λ o. Closed i b o link link' head head' in subst P last moved.closed in
+      let closed : head' b ≡ link i = rw last at moved.closed in
       let kept : (j : ℕ) → In j ahead → link' j ≡ link j =
-      λ j m. moved.links j (λ e. let P : ℕ → Type 0 = λ k. In k ahead in d.0 (subst P e m)) (none_or_some before j last) in
-      let P : Option ℕ → Type 0 = λ o. Path link' o ahead in
-      subst P (sym closed) (path_kept link link' (link i) ahead kept path.1)
+      λ j m. moved.links j (λ e. d.0 (rw e at m)) (λ e. cc) in
+      rw closed (path_kept link link' (link i) ahead kept path.1)
   linked_b (p ∷ ps) ahead path d last =
-      let closed : (head' b ≡ head b) × (link' p ≡ link i) = let P : Option ℕ → Type 0 = λ o. Closed i b o link link' head head' in subst P last moved.closed in
+      let closed : (head' b ≡ head b) × (link' p ≡ link i) = rw last at moved.closed in
       let off-i : (j : ℕ) → In j (p ∷ ps) ⊎ In j ahead → j ≡ i → ⊥ =
       λ j m e. ⊎_elim
       (λ k. distinct_parts (p ∷ ps) (i ∷ ahead) d j k (inl e))
-      (λ k. let P : ℕ → Type 0 = λ z. In z ahead in (distinct_back (p ∷ ps) (i ∷ ahead) d).0 (subst P e k))
+      (λ k. (distinct_back (p ∷ ps) (i ∷ ahead) d).0 (rw e at k))
       m in
       let off-p : (j : ℕ) → In j ps ⊎ In j ahead → j ≡ p → ⊥ =
       λ j m e. ⊎_elim
@@ -110,12 +107,10 @@ module _ {n i b c : ℕ} {before : Option ℕ} {own own' : ℕ → ℕ} {link li
       (λ k. distinct_parts (p ∷ ps) (i ∷ ahead) d j (inl e) (inr k))
       m in
       let kept : (j : ℕ) → In j ps ⊎ In j ahead → link' j ≡ link j =
-      λ j m. moved.links j (off-i j (⊎_elim (λ k. inl (inr k)) inr m)) (λ e. off-p j m (one_slot before j p e last)) in
-      let P : Option ℕ → Type 0 = λ o. Path link' o ahead in
-      let Q : Option ℕ → Type 0 = λ o. Path link' o (onto ps (p ∷ ahead)) in
-      subst Q (sym closed.0)
+      λ j m. moved.links j (off-i j (⊎_elim (λ k. inl (inr k)) inr m)) (λ e. off-p j m (cc)) in
+      rw closed.0
       (path_onto link link' ps (p ∷ (i ∷ ahead)) (p ∷ ahead)
-      (λ o q. (q.0, subst P (sym closed.1) (path_kept link link' (link i) ahead (λ j m. kept j (inr m)) q.1.1)))
+      (λ o q. (q.0, rw closed.1 (path_kept link link' (link i) ahead (λ j m. kept j (inr m)) q.1.1)))
       (λ j m. kept j (inl m)) (head b) path)
 
   -- ---- the slots that each chain has
@@ -124,7 +119,7 @@ module _ {n i b c : ℕ} {before : Option ℕ} {own own' : ℕ → ℕ} {link li
   inside' =
       by_chain (λ d xs. (j : ℕ) → In j xs → (j < n) × (own' j ≡ d))
       (λ j m. ⊎_elim
-      (λ e. let P : ℕ → Type 0 = λ k. (k < n) × (own' k ≡ c) in subst P (sym e) ((in_b st split i (in_onto i split.behind (i ∷ split.ahead) (inr (inl refl)))).0, moved.to))
+      (λ e. rw e ((in_b st split i (in_onto i split.behind (i ∷ split.ahead) (inr (inl refl)))).0, moved.to))
       (λ m. let mine = st.inside c j m in (mine.0, moved.owners j (λ e. apart (sym (own_i st split) ∙ ap own (sym e) ∙ mine.1)) ∙ mine.1))
       m)
       (λ j m.
@@ -132,7 +127,7 @@ module _ {n i b c : ℕ} {before : Option ℕ} {own own' : ℕ → ℕ} {link li
       let other : j ≡ i → ⊥ =
       λ e. ⊎_elim
       (λ k. distinct_parts split.behind (i ∷ split.ahead) (distinct_b st split) j k (inl e))
-      (λ k. let P : ℕ → Type 0 = λ z. In z split.ahead in (distinct_back split.behind (i ∷ split.ahead) (distinct_b st split)).0 (subst P e k))
+      (λ k. (distinct_back split.behind (i ∷ split.ahead) (distinct_b st split)).0 (rw e at k))
       (onto_in j split.behind split.ahead m) in
       let mine = in_b st split j whole in
       (mine.0, moved.owners j other ∙ mine.1))
@@ -147,13 +142,12 @@ module _ {n i b c : ℕ} {before : Option ℕ} {own own' : ℕ → ℕ} {link li
       (λ j less e. ⊎_elim inl (λ ne. inr (was c j less ne e)) (cases_eq j i))
       (λ j less e.
       let ne : j ≡ i → ⊥ = λ s. apart (sym e ∙ ap own' s ∙ moved.to) in
-      let P : List ℕ → Type 0 = λ xs. In j xs in
       in_onto j split.behind split.ahead
-      (⊎_elim inl (⊎_elim (λ s. absurd (ne s)) inr) (onto_in j split.behind (i ∷ split.ahead) (subst P split.whole (was b j less ne e)))))
+      (⊎_elim inl (⊎_elim (λ s. absurd (ne s)) inr) (onto_in j split.behind (i ∷ split.ahead) (rw split.whole at (was b j less ne e)))))
       (λ d not-c not-b j less e. was d j less (λ s. not-c (sym e ∙ ap own' s ∙ moved.to)) e)
     where
       was : (d j : ℕ) → j < n → (j ≡ i → ⊥) → own' j ≡ d → In j (st.chain d)
-      was d j less ne e = let P : ℕ → Type 0 = λ k. In j (st.chain k) in subst P (sym (moved.owners j ne) ∙ e) (st.whole j less)
+      was d j less ne e = rw (sym (moved.owners j ne) ∙ e) at (st.whole j less)
 
   pub chained : Chained n own' link' head'
   chained = record {

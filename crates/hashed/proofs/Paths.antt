@@ -1,30 +1,24 @@
 -- Paths through links: where one begins settles it, so it never comes back to a slot.
-use Rattle.std.proofs.Common.{◌≡◌, ℕ, zero, suc, ◌<◌, ◌≤◌, List, [], ◌∷◌, length, Some, None, Option, sym, refl, ap, ◌∙◌, subst, inl, inr, ⊎_elim, arith}
+use Rattle.std.proofs.Common.{◌≡◌, ℕ, zero, suc, ◌<◌, ◌≤◌, List, [], ◌∷◌, length, Some, None, Option, refl, ap, ◌∙◌, inl, inr, ⊎_elim, arith}
 use Rattle.hashed.specs.Chains.{In, Path}
 use Rattle.hashed.specs.Steps.{onto}
 use Rattle.hashed.proofs.Lists.{Distinct}
 
-pub none_or_some : (o : Option ℕ) (i : ℕ) → o ≡ None → o ≡ Some i → ⊥
-none_or_some o i p q = let z : ◌≡◌ {A = ℕ} 0 1 = cc in omega arith
-
-pub one_slot : (o : Option ℕ) (i j : ℕ) → o ≡ Some i → o ≡ Some j → i ≡ j
-one_slot o i j p q = cc
-
 module _ (link : ℕ → Option ℕ) where
   pub path_length : (from : Option ℕ) (xs ys : List ℕ) → Path link from xs → Path link from ys → length xs ≡ length ys
   path_length from [] [] p q = refl
-  path_length from [] (y ∷ ys) p q = absurd (none_or_some from y p q.0)
-  path_length from (x ∷ xs) [] p q = absurd (none_or_some from x q p.0)
+  path_length from [] (y ∷ ys) p q = cc
+  path_length from (x ∷ xs) [] p q = cc
   path_length from (x ∷ xs) (y ∷ ys) p q =
-      let P : ℕ → Type 0 = λ z. Path link (link z) ys in
-      ap suc (path_length (link x) xs ys p.1 (subst P (one_slot from y x q.0 p.0) q.1))
+      let e : y ≡ x = cc in
+      ap suc (path_length (link x) xs ys p.1 (rw e at q.1))
 
   -- What is left of a path behind one of its slots.
   rest : (x : ℕ) (from : Option ℕ) (xs : List ℕ) → In x xs → Path link from xs → (ys : List ℕ) × Path link (link x) ys × (length ys < length xs)
   rest x from [] m p = absurd m
   rest x from (y ∷ ys) m p =
       ⊎_elim
-      (λ (e : x ≡ y). let P : ℕ → Type 0 = λ z. Path link (link z) ys in (ys, subst P (sym e) p.1, omega arith))
+      (λ (e : x ≡ y). (ys, rw e p.1, omega arith))
       (λ (m : In x ys). let r = rest x (link y) ys m p.1 in (r.0, r.1, omega (arith, r.2)))
       m
 
@@ -53,12 +47,10 @@ module _ (link link' : ℕ → Option ℕ) where
   pub path_kept : (from : Option ℕ) (xs : List ℕ) → ((x : ℕ) → In x xs → link' x ≡ link x) → Path link from xs → Path link' from xs
   path_kept from [] same p = p
   path_kept from (x ∷ xs) same p =
-      let P : Option ℕ → Type 0 = λ o. Path link' o xs in
-      (p.0, subst P (sym (same x (inl refl))) (path_kept (link x) xs (λ y m. same y (inr m)) p.1))
+      (p.0, rw (same x (inl refl)) (path_kept (link x) xs (λ y m. same y (inr m)) p.1))
 
   -- And if they agree at the front, they take what the back becomes behind it.
   pub path_onto : (front back back' : List ℕ) → ((from : Option ℕ) → Path link from back → Path link' from back') → ((x : ℕ) → In x front → link' x ≡ link x) → (from : Option ℕ) → Path link from (onto front back) → Path link' from (onto front back')
   path_onto [] back back' on same from p = on from p
   path_onto (x ∷ front) back back' on same from p =
-      let P : Option ℕ → Type 0 = λ o. Path link' o back' in
-      path_onto front (x ∷ back) (x ∷ back') (λ o q. (q.0, subst P (sym (same x (inl refl))) (on (link x) q.1))) (λ y m. same y (inr m)) from p
+      path_onto front (x ∷ back) (x ∷ back') (λ o q. (q.0, rw (same x (inl refl)) (on (link x) q.1))) (λ y m. same y (inr m)) from p

@@ -1,5 +1,5 @@
 -- The structure of the slots after a free slot is put in front of a chain, and after a slot of a chain is made free.
-use Rattle.std.proofs.Common.{◌≡◌, ℕ, ◌%◌, ◌<◌, Bool, true, false, cond, eqb, List, [], ◌∷◌, map, length, get_or, set, IfSome, Some, None, Option, sym, refl, ap, ◌∙◌, mod-lt, arith, length-set}
+use Rattle.std.proofs.Common.{◌≡◌, ℕ, ◌%◌, ◌<◌, Bool, cond, eqb, List, [], ◌∷◌, map, length, get_or, set, IfSome, Some, None, Option, sym, refl, ap, ◌∙◌, mod-lt, arith, length-set}
 use mathlib.Core.Logic.{∥∥₁_elim}
 use native.Mathlib.Bridge.{le_prop}
 use lib.ListN.{length-map}
@@ -7,17 +7,17 @@ use Rattle.std.proofs.lemmas.List.{get_or-set_same, get_or-set_other}
 use Rattle.std.proofs.lemmas.Bool.{cond-true, cond-false, eq-eqb, ne_eqb}
 use Rattle.hashed.specs.declared.slot.Entry.{Entry}
 use Rattle.hashed.specs.declared.slot.Slot.{Slot}
+use Rattle.hashed.specs.declared.table.Spot.{Spot}
 use Rattle.hashed.specs.Chains.{Path}
 use Rattle.hashed.specs.Slots.{entries, links, heads, chain_of, Stands, Sound}
-use Rattle.hashed.specs.Steps.{Columns, relinked, reheaded, Split, Located}
+use Rattle.hashed.specs.Steps.{Columns, SpotInside, relinked, reheaded, Split, Located}
 use Rattle.hashed.proofs.Columns.{at_written, at_other}
-use Rattle.hashed.proofs.Paths.{none_or_some, one_slot}
 use Rattle.hashed.proofs.Moves.{Moved, Closed, before_apart, chained}
 
 -- A slot that a path begins at is the first of it.
 pub first_split : (link : ℕ → Option ℕ) (from : Option ℕ) (i : ℕ) (xs : List ℕ) → from ≡ Some i → Path link from xs → Split xs None i
-first_split link from i [] at path = absurd (none_or_some from i path at)
-first_split link from i (x ∷ xs) at path = record { behind = []; ahead = xs; whole = ap (λ (z : ℕ). z ∷ xs) (one_slot from x i path.0 at); last = refl }
+first_split link from i [] at path = absurd (cc)
+first_split link from i (x ∷ xs) at path = record { behind = []; ahead = xs; whole = cc; last = refl }
 
 -- The heads of n chains, and of the free slots behind them.
 abbrev pub head_in : ℕ → Option ℕ → List (Option ℕ) → ℕ → Option ℕ
@@ -29,8 +29,8 @@ head_of_free n free hs = cond-true _ _ _ (eq-eqb n n refl)
 head_of_chain : (n : ℕ) (free : Option ℕ) (hs : List (Option ℕ)) (b : ℕ) → (b ≡ n → ⊥) → head_in n free hs b ≡ get_or hs b None
 head_of_chain n free hs b ne = cond-false _ _ _ (ne_eqb b n ne)
 
-module _ {T : Type 0} (n : ℕ) (es : List (Entry T)) (ls hs : List (Option ℕ)) (free : Option ℕ) (le : length es ≡ n) (ll : length ls ≡ n) (lh : length hs ≡ n) (i b : ℕ) (e : Entry T) (inside : i < n) (low : b < n) (st : Stands n es ls hs free) where
-  abbrev own_in : List (Entry T) → ℕ → ℕ
+module _ {T : Type 0} (n : ℕ) (es : List (Option (Entry T))) (ls hs : List (Option ℕ)) (free : Option ℕ) (le : length es ≡ n) (ll : length ls ≡ n) (lh : length hs ≡ n) (i b : ℕ) (e : Option (Entry T)) (inside : i < n) (low : b < n) (st : Stands n es ls hs free) where
+  abbrev own_in : List (Option (Entry T)) → ℕ → ℕ
   own_in cs j = get_or (map (chain_of n) cs) j n
 
   abbrev link_in : List (Option ℕ) → ℕ → Option ℕ
@@ -99,7 +99,7 @@ module _ {T : Type 0} (n : ℕ) (es : List (Entry T)) (ls hs : List (Option ℕ)
 
 -- ---- the slots themselves
 
-stands_by : {T : Type 0} {n n' : ℕ} {es es' : List (Entry T)} {ls ls' hs hs' : List (Option ℕ)} {free free' : Option ℕ} → n' ≡ n → es' ≡ es → ls' ≡ ls → hs' ≡ hs → free' ≡ free → Stands n es ls hs free → Stands n' es' ls' hs' free'
+stands_by : {T : Type 0} {n n' : ℕ} {es es' : List (Option (Entry T))} {ls ls' hs hs' : List (Option ℕ)} {free free' : Option ℕ} → n' ≡ n → es' ≡ es → ls' ≡ ls → hs' ≡ hs → free' ≡ free → Stands n es ls hs free → Stands n' es' ls' hs' free'
 stands_by size entered linked headed freed st = rw (size, entered, linked, headed, freed) st
 
 module _ {T : Type 0} (t t' : List (Slot T)) (free free' : Option ℕ) where
@@ -113,20 +113,27 @@ module _ {T : Type 0} (t t' : List (Slot T)) (free free' : Option ℕ) where
   long_heads = length-map t (λ s. s.head)
 
   -- Writing one entry leaves as many slots.
-  pub as_many : {ls hs : List (Option ℕ)} (i : ℕ) (e : Entry T) → Columns t' (set (entries t) i e) ls hs → length t' ≡ length t
-  as_many i e columns = sym (length-map t' (λ s. s.entry)) ∙ ap length columns.entered ∙ length-set (entries t) i e ∙ long_entries
+  pub as_many : (i : ℕ) (e : Option (Entry T)) → entries t' ≡ set (entries t) i e → length t' ≡ length t
+  as_many i e entered = sym (length-map t' (λ s. s.entry)) ∙ ap length entered ∙ length-set (entries t) i e ∙ long_entries
 
-  pub sound_inserted : (i : ℕ) (e : Entry T) → 0 < length t → i < length t → free ≡ Some i → e.used ≡ true → Columns t' (set (entries t) i e) (set (links t) i (get_or (heads t) (e.mark % length t) None)) (set (heads t) (e.mark % length t) (Some i)) → free' ≡ get_or (links t) i None → Sound t free → Sound t' free'
-  sound_inserted i e some inside at used columns freed st =
-      stands_by (as_many i e columns) columns.entered columns.linked columns.headed freed
-      (occupied (length t) (entries t) (links t) (heads t) free long_entries long_links long_heads i (e.mark % length t) e inside (mod-lt e.mark some) st at (cond-true _ _ _ used))
+  pub sound_inserted : (i : ℕ) (e : Entry T) → 0 < length t → i < length t → free ≡ Some i → Columns t' (set (entries t) i (Some e)) (set (links t) i (get_or (heads t) (e.mark % length t) None)) (set (heads t) (e.mark % length t) (Some i)) → free' ≡ get_or (links t) i None → Sound t free → Sound t' free'
+  sound_inserted i e some inside at columns freed st =
+      stands_by (as_many i (Some e) columns.entered) columns.entered columns.linked columns.headed freed
+      (occupied (length t) (entries t) (links t) (heads t) free long_entries long_links long_heads i (e.mark % length t) (Some e) inside (mod-lt e.mark some) st at refl)
 
-  pub sound_removed : (i b : ℕ) (before : Option ℕ) (e : Entry T) → i < length t → b < length t → e.used ≡ false → Columns t' (set (entries t) i e) (set (relinked before (get_or (links t) i None) (links t)) i free) (reheaded before b (get_or (links t) i None) (heads t)) → free' ≡ Some i → (st : Sound t free) → Split (st.chain b) before i → Sound t' free'
-  sound_removed i b before e inside low unused columns freed st split =
-      stands_by (as_many i e columns) columns.entered columns.linked columns.headed freed
-      (released (length t) (entries t) (links t) (heads t) free long_entries long_links long_heads i b e inside low st before split (cond-false _ _ _ unused))
+  pub sound_removed : (i b : ℕ) (before : Option ℕ) → i < length t → b < length t → Columns t' (set (entries t) i None) (set (relinked before (get_or (links t) i None) (links t)) i free) (reheaded before b (get_or (links t) i None) (heads t)) → free' ≡ Some i → (st : Sound t free) → Split (st.chain b) before i → Sound t' free'
+  sound_removed i b before inside low columns freed st split =
+      stands_by (as_many i None columns.entered) columns.entered columns.linked columns.headed freed
+      (released (length t) (entries t) (links t) (heads t) free long_entries long_links long_heads i b None inside low st before split refl)
+
+some_inside : (n : ℕ) (o : Option ℕ) → ((p : ℕ) → o ≡ Some p → p < n) → IfSome o (λ p. p < n)
+some_inside n None inside = tt
+some_inside n (Some p) inside = inside p refl
 
 -- The slot before a located one, if there is one, is a slot too.
-pub before_inside : {T : Type 0} (same : T → T → Bool) (t : List (Slot T)) (free : Option ℕ) (x : T) (b i : ℕ) (before : Option ℕ) → ∥ Sound t free ∥₁ → Located same t x b before i → IfSome before (λ p. p < length t)
-before_inside same t free x b i None sound located = tt
-before_inside same t free x b i (Some p) sound located = ∥∥₁_elim sound le_prop (λ st. (before_apart st (located.split free st) p refl).0)
+pub spot_inside : {T : Type 0} (same : T → T → Bool) (t : List (Slot T)) (free : Option ℕ) (x : T) (s : Spot) → ∥ Sound t free ∥₁ → s.chain < length t → Located same t x s → SpotInside t s
+spot_inside same t free x s sound low located = record {
+  chain = low;
+  before = some_inside (length t) s.before (λ p at. ∥∥₁_elim sound le_prop (λ st. (before_apart st (located.split free st) p at).0));
+  here = located.inside;
+}

@@ -1,11 +1,12 @@
 -- What the steps of the calls do to the slots, and what a walk along a chain finds.
-use Rattle.std.specs.Prelude.{◌≡◌, ℕ, zero, suc, ◌<◌, Bool, true, false, List, [], ◌∷◌, map, length, Some, None, Option, slice_index, slice_index_or, slice_set}
+use Rattle.std.specs.Prelude.{◌≡◌, ℕ, zero, suc, ◌<◌, Bool, true, false, List, [], ◌∷◌, map, length, IfSome, Some, None, Option, slice_index_or, slice_set}
 use Rattle.hashed.specs.declared.slot.Entry.{Entry}
 use Rattle.hashed.specs.declared.slot.Slot.{Slot}
-use Rattle.hashed.specs.Slots.{entries, links, heads, chain_of, Sound}
+use Rattle.hashed.specs.declared.table.Spot.{Spot}
+use Rattle.hashed.specs.Slots.{vacant_slot, entries, links, heads, chain_of, Sound}
 
 -- The slots have these entries, links and heads.
-pub record Columns {T : Type 0} (t : List (Slot T)) (es : List (Entry T)) (ls hs : List (Option ℕ)) : Type 0 where
+pub record Columns {T : Type 0} (t : List (Slot T)) (es : List (Option (Entry T))) (ls hs : List (Option ℕ)) : Type 0 where
   pub entered : entries t ≡ es
   pub linked : links t ≡ ls
   pub headed : heads t ≡ hs
@@ -13,18 +14,18 @@ pub record Columns {T : Type 0} (t : List (Slot T)) (es : List (Entry T)) (ls hs
 -- ---- single entries
 
 module _ {T : Type 0} where
-  abbrev pub spent : Entry T → Entry T
-  spent e = record { binding = e.binding; mark = e.mark; used = false }
+  -- The entry of the slot i, if it is in use.
+  abbrev pub entry_at : List (Option (Entry T)) → ℕ → Option (Entry T)
+  entry_at es i = slice_index_or es i None
 
-  abbrev pub used_at : List (Entry T) → ℕ → Bool
-  used_at es i = slice_index_or (map (λ e. e.used) es) i false
+  -- Whether there is an entry, with an item that is the same as x.
+  abbrev pub hits : (T → T → Bool) → T → Option (Entry T) → Bool
+  hits same x None = false
+  hits same x (Some e) = same x e.binding.item
 
-  abbrev pub slot_place_at : List (Entry T) → ℕ → ℕ
-  slot_place_at es i = slice_index (map (λ e. e.binding.place) es) i
-
-  -- Whether the item at slot i is the same as x.
-  abbrev pub hit_at : (T → T → Bool) → List (Entry T) → T → ℕ → Bool
-  hit_at same es x i = slice_index_or (map (λ e. same x e.binding.item) es) i false
+  -- Whether the slot i is in use, with an item that is the same as x.
+  abbrev pub hit_at : (T → T → Bool) → List (Option (Entry T)) → T → ℕ → Bool
+  hit_at same es x i = hits same x (entry_at es i)
 
 -- ---- making all slots free
 
@@ -33,13 +34,17 @@ abbrev pub below : ℕ → Option ℕ
 below zero = None
 below (suc i) = Some i
 
--- The first n slots are free, and their chains have no head.
-pub record Cleared {T : Type 0} (t : List (Slot T)) (n : ℕ) : Type 0 where
-  pub unused : (i : ℕ) → i < n → used_at (entries t) i ≡ false
-  pub linked : (i : ℕ) → i < n → slice_index_or (links t) i None ≡ below i
-  pub headless : (i : ℕ) → i < n → slice_index_or (heads t) i None ≡ None
+-- The first n slots are free, each linked to the one below, and their chains have no head.
+abbrev pub Cleared : {T : Type 0} → List (Slot T) → ℕ → Type 0
+Cleared t n = (i : ℕ) → i < n → slice_index_or t i vacant_slot ≡ record { entry = None; link = below i; head = None }
 
 -- ---- taking a slot out of its chain
+
+-- What the spot names is there: its chain, the slot before it, if there is one, and its slot.
+pub record SpotInside {T : Type 0} (t : List (Slot T)) (s : Spot) : Type 0 where
+  pub chain : s.chain < length t
+  pub before : IfSome s.before (λ p. p < length t)
+  pub here : s.here < length t
 
 -- What pointed to the slot, the slot before it or the head of the chain, now points to `to`.
 abbrev pub relinked : Option ℕ → Option ℕ → List (Option ℕ) → List (Option ℕ)
@@ -52,11 +57,7 @@ reheaded (Some p) chain to hs = hs
 
 -- ---- a walk along a chain
 
--- A walk is at the head of the chain, or behind a slot.
-pub record Begins (hs : List (Option ℕ)) (chain : ℕ) (before at : Option ℕ) : Type 0 where
-  pub before_none : before ≡ None
-  pub at_head : at ≡ slice_index_or hs chain None
-
+-- A walk goes on behind the slot.
 pub record Follows (ls : List (Option ℕ)) (slot : ℕ) (before at : Option ℕ) : Type 0 where
   pub before_slot : before ≡ Some slot
   pub at_link : at ≡ slice_index_or ls slot None
@@ -78,14 +79,13 @@ pub record Split (chain : List ℕ) (before : Option ℕ) (slot : ℕ) : Type 0 
   pub whole : chain ≡ onto behind (slot ∷ ahead)
   pub last : before ≡ last_of behind
 
-module _ {T : Type 0} (same : T → T → Bool) (t : List (Slot T)) (x : T) (chain : ℕ) where
-  -- The slot `here` of the chain is in use and has an item that is the same as x.
-  pub record Located (before : Option ℕ) (here : ℕ) : Type 0 where
-    pub inside : here < length t
-    pub used : used_at (entries t) here ≡ true
-    pub hit : hit_at same (entries t) x here ≡ true
-    pub split : (free : Option ℕ) (st : Sound t free) → Split (st.chain chain) before here
+module _ {T : Type 0} (same : T → T → Bool) (t : List (Slot T)) (x : T) where
+  -- The slot of the spot is in its chain, is in use and has an item that is the same as x.
+  pub record Located (s : Spot) : Type 0 where
+    pub inside : s.here < length t
+    pub hit : hit_at same (entries t) x s.here ≡ true
+    pub split : (free : Option ℕ) (st : Sound t free) → Split (st.chain s.chain) s.before s.here
 
   -- No slot of the chain has an item that is the same as x.
-  abbrev pub Missing : Type 0
-  Missing = (i : ℕ) → i < length t → slice_index_or (map (chain_of (length t)) (entries t)) i (length t) ≡ chain → hit_at same (entries t) x i ≡ false
+  abbrev pub Missing : ℕ → Type 0
+  Missing chain = (i : ℕ) → i < length t → slice_index_or (map (chain_of (length t)) (entries t)) i (length t) ≡ chain → hit_at same (entries t) x i ≡ false

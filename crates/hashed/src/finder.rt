@@ -7,7 +7,7 @@ use crate::table::Table;
 pub mod calls;
 
 // Every value of the type has its links in order, so that a walk along a chain ends and passes all that the chain
-// has; and `held` is the number of bindings.
+// has; and `held` is the number of bindings, beside slots that are lent.
 #[derive(Drop)]
 pub struct HashedFinder<'a, T> {
     table: Table<'a, T>,

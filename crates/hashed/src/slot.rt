@@ -4,34 +4,29 @@ ghost use Rattle.hashed.specs.Slots.{vacant_slot};
 
 use finders::finder::Binding;
 
-// A binding, and the mark of its item; of a slot that is not in use, what an earlier binding left.
+// A binding, and the mark of its item.
 #[derive(Clone, Copy)]
 pub(crate) struct Entry<T> {
     pub(crate) binding: Binding<T>,
     pub(crate) mark: u16,
-    pub(crate) used: bool,
 }
 
 // A slot has room for one entry, with the link to the next slot of its chain, and for the head of the chain that
-// has the slot's own number.
+// has the slot's own number. Links and heads are numbers of slots, since the memory is lent and there is no heap.
 #[derive(Clone, Copy)]
 pub struct Slot<T> {
-    pub(crate) entry: Entry<T>,
+    pub(crate) entry: Option<Entry<T>>,
     pub(crate) link: Option<u16>,
     pub(crate) head: Option<u16>,
 }
 
 impl<T> Slot<T> {
-    // A slot that is not in use. The item only fills its room.
-    pub fn vacant(item: T) -> Slot<T>
-        ensures { result ≡ vacant_slot item }
+    // A slot that is not in use.
+    pub fn vacant() -> Slot<T>
+        ensures { result ≡ vacant_slot }
     {
         Slot {
-            entry: Entry {
-                binding: Binding { item, place: 0 },
-                mark: 0,
-                used: false,
-            },
+            entry: None,
             link: None,
             head: None,
         }

@@ -1,121 +1,18 @@
-// The slots and the head of the free ones: reading and writing single fields, walking along a chain, and moving a
-// slot from one chain to another.
-ghost use Rattle.std.specs.Prelude.{◌≡◌, ℕ, ◌%◌, ◌<◌, ◌≤◌, [], length, IfSome, Some, None, Option, MatchOption, slice_index_or, slice_set};
-ghost use Rattle.hashed.specs.declared.slot.Entry.{Entry};
-ghost use Rattle.hashed.specs.Slots.{entries, links, heads, bindings_in, Sound};
-ghost use Rattle.hashed.specs.Steps.{Columns, spent, slot_place_at, hit_at, below, Cleared, relinked, reheaded, Begins, Follows, Located, Missing};
+// The slots and the head of the free ones: walking along a chain, and moving a slot from one chain to another.
+ghost use Rattle.std.specs.Prelude.{◌≡◌, ◌%◌, ◌<◌, ◌≤◌, length, Some, None, MatchOption, slice_index_or, slice_set};
+ghost use Rattle.hashed.specs.Slots.{entries, links, heads, Sound};
+ghost use Rattle.hashed.specs.Steps.{Columns, below, Cleared, SpotInside, relinked, reheaded, Follows, hit_at, Located, Missing};
 
 use crate::slot::{Entry, Slot};
 use items::kind::Kind;
 
-// ---- one field of one slot
-
-fn link_of<T: Copy + Drop>(slots: &[Slot<T>], i: usize) -> Option<u16>
-    requires { i < length slots.now }
-    ensures { result ≡ slice_index_or (links slots.now) i None }
-{
-    slots[i].link
+// A slot, its chain, and the slot before it there.
+#[derive(Clone, Copy)]
+pub(crate) struct Spot {
+    pub(crate) chain: usize,
+    pub(crate) before: Option<u16>,
+    pub(crate) here: u16,
 }
-
-fn head_of<T: Copy + Drop>(slots: &[Slot<T>], chain: usize) -> Option<u16>
-    requires { chain < length slots.now }
-    ensures { result ≡ slice_index_or (heads slots.now) chain None }
-{
-    slots[chain].head
-}
-
-pub(crate) fn place_of<T: Copy + Drop>(slots: &[Slot<T>], i: usize) -> usize
-    requires { i < length slots.now }
-    ensures { result ≡ slot_place_at (entries slots.now) i }
-{
-    slots[i].entry.binding.place
-}
-
-// Whether the slot's item is the same.
-fn holds<T: Kind + Copy + Drop>(slots: &[Slot<T>], here: u16, item: &T) -> bool
-    requires { here < length slots.now }
-    ensures { result ≡ hit_at T.Kind.same (entries slots.now) item.now here }
-{
-    item.is_same(&slots[here as usize].entry.binding.item)
-}
-
-fn set_link<T: Copy + Drop>(slots: &mut [Slot<T>], i: usize, to: Option<u16>)
-    requires { i < length slots.old }
-    ensures { Columns slots.new (entries slots.old) (slice_set (links slots.old) i to) (heads slots.old) }
-{
-    slots[i].link = to;
-}
-
-fn set_head<T: Copy + Drop>(slots: &mut [Slot<T>], chain: usize, to: Option<u16>)
-    requires { chain < length slots.old }
-    ensures { Columns slots.new (entries slots.old) (links slots.old) (slice_set (heads slots.old) chain to) }
-{
-    slots[chain].head = to;
-}
-
-fn set_entry<T: Copy + Drop>(slots: &mut [Slot<T>], i: usize, entry: Entry<T>)
-    requires { i < length slots.old }
-    ensures { Columns slots.new (slice_set (entries slots.old) i entry) (links slots.old) (heads slots.old) }
-{
-    slots[i].entry = entry;
-}
-
-// Takes the slot's entry out of use. What it held stays where it is.
-fn retire<T: Copy + Drop>(slots: &mut [Slot<T>], i: usize)
-    requires { i < length slots.old }
-    ensures { (e : Entry T) → Columns slots.new (slice_set (entries slots.old) i (spent (slice_index_or (entries slots.old) i e))) (links slots.old) (heads slots.old) }
-{
-    slots[i].entry.used = false;
-}
-
-// ---- the number of a chain
-
-// The number of the chain of a mark: the mark modulo the number of slots.
-fn chain_of(mark: u16, slots: usize) -> usize
-    requires { 0 < slots }
-    ensures value { result ≡ mark % slots }
-    ensures below { result < slots }
-{
-    mark as usize % slots
-}
-
-// The number of the chain that an item is looked for in.
-pub(crate) fn chain_for<T: Kind>(item: &T, slots: usize) -> usize
-    requires { 0 < slots }
-    ensures value { result ≡ T.Kind.mark_of item.now % slots }
-    ensures below { result < slots }
-{
-    chain_of(item.mark(), slots)
-}
-
-// ---- making all slots free
-
-// Makes the slot free, in front of `link`, and its chain empty.
-fn reset<T: Copy + Drop>(slots: &mut [Slot<T>], i: usize, link: Option<u16>)
-    requires { i < length slots.old }
-    ensures { (e : Entry T) → Columns slots.new (slice_set (entries slots.old) i (spent (slice_index_or (entries slots.old) i e))) (slice_set (links slots.old) i link) (slice_set (heads slots.old) i None) }
-{
-    set_link(slots, i, link);
-    set_head(slots, i, None);
-    retire(slots, i);
-}
-
-// Makes every slot free and every chain empty, whatever the slots held. Answers the head of the free slots.
-pub(crate) fn clear<T: Copy + Drop>(slots: &mut [Slot<T>]) -> Option<u16>
-    requires { length slots.old ≤ 1024 }
-    ensures free { result ≡ below (length slots.old) }
-    ensures cleared { Cleared slots.new (length slots.old) }
-    ensures empty { bindings_in (entries slots.new) ≡ [] }
-{
-    let mut free = None;
-    for i in 0..slots.len() {
-        reset(slots, i, free);
-        free = Some(i as u16);
-    }
-    free
-}
-
-// ---- walking along a chain
 
 // How far a walk along a chain has come: the slot that it is at, if there is one, and the one before.
 #[derive(Clone, Copy)]
@@ -124,140 +21,139 @@ struct Cursor {
     at: Option<u16>,
 }
 
-// Where a walk along the chain begins.
-fn first_of<T: Copy + Drop>(slots: &[Slot<T>], chain: usize) -> Cursor
-    requires { chain < length slots.now }
-    ensures { Begins (heads slots.now) chain result.before result.at }
-{
-    Cursor {
-        before: None,
-        at: head_of(slots, chain),
-    }
-}
-
-// Where a walk goes on from the slot.
-fn behind<T: Copy + Drop>(slots: &[Slot<T>], here: u16) -> Cursor
-    requires { here < length slots.now }
-    ensures { Follows (links slots.now) here result.before result.at }
-{
-    Cursor {
-        before: Some(here),
-        at: link_of(slots, here as usize),
-    }
-}
-
-// A slot, and the one before it in its chain.
-#[derive(Clone, Copy)]
-pub(crate) struct Spot {
-    pub(crate) before: Option<u16>,
-    pub(crate) here: u16,
-}
-
-// Walks along the chain of the item to the slot that has a same one.
-pub(crate) fn seek<T: Kind + Copy + Drop>(slots: &[Slot<T>], item: &T) -> Option<Spot>
-    requires { ∥ ((free : Option ℕ) × Sound slots.now free) ∥₁ }
-    ensures { MatchOption result (Missing T.Kind.same slots.now item.now (T.Kind.mark_of item.now % length slots.now)) (λ s. Located T.Kind.same slots.now item.now (T.Kind.mark_of item.now % length slots.now) s.before s.here) }
-{
-    if slots.is_empty() {
-        return None;
-    }
-    let mut cursor = first_of(slots, chain_for(item, slots.len()));
-    while let Some(here) = cursor.at {
-        if holds(slots, here, item) {
-            return Some(Spot {
-                before: cursor.before,
-                here,
-            });
-        }
-        cursor = behind(slots, here);
-    }
-    None
-}
-
-// ---- moving a slot from one chain to another
-
-// Takes the first free slot out of the free ones and puts it in front of the chain of the entry's mark. Answers the
-// head of the slots that are still free.
-fn occupy<T: Copy + Drop>(slots: &mut [Slot<T>], here: u16, entry: Entry<T>) -> Option<u16>
-    requires { here < length slots.old }
-    ensures rest { result ≡ slice_index_or (links slots.old) here None }
-    ensures moved { Columns slots.new (slice_set (entries slots.old) here entry) (slice_set (links slots.old) here (slice_index_or (heads slots.old) (entry.mark % length slots.old) None)) (slice_set (heads slots.old) (entry.mark % length slots.old) (Some here)) }
-{
-    let i = here as usize;
-    let chain = chain_of(entry.mark, slots.len());
-    let rest = link_of(slots, i);
-    let first = head_of(slots, chain);
-    set_link(slots, i, first);
-    set_head(slots, chain, Some(here));
-    set_entry(slots, i, entry);
-    rest
-}
-
-// Lets what points to a slot of the chain, the slot before it or else the head, point to `to` instead.
-fn redirect<T: Copy + Drop>(
-    slots: &mut [Slot<T>],
-    chain: usize,
-    before: Option<u16>,
-    to: Option<u16>,
-)
-    requires chain { chain < length slots.old }
-    requires before { IfSome before (λ p. p < length slots.old) }
-    ensures { Columns slots.new (entries slots.old) (relinked before to (links slots.old)) (reheaded before chain to (heads slots.old)) }
-{
-    match before {
-        None => set_head(slots, chain, to),
-        Some(p) => set_link(slots, p as usize, to),
-    }
-}
-
-// Takes the slot `here`, which `before` stands before, out of its chain, and puts it in front of the free ones.
-fn release<T: Copy + Drop>(
-    slots: &mut [Slot<T>],
-    chain: usize,
-    before: Option<u16>,
-    here: u16,
-    free: Option<u16>,
-)
-    requires chain { chain < length slots.old }
-    requires before { IfSome before (λ p. p < length slots.old) }
-    requires here { here < length slots.old }
-    ensures { (e : Entry T) → Columns slots.new (slice_set (entries slots.old) here (spent (slice_index_or (entries slots.old) here e))) (slice_set (relinked before (slice_index_or (links slots.old) here None) (links slots.old)) here free) (reheaded before chain (slice_index_or (links slots.old) here None) (heads slots.old)) }
-{
-    let i = here as usize;
-    let next = link_of(slots, i);
-    redirect(slots, chain, before, next);
-    set_link(slots, i, free);
-    retire(slots, i);
-}
-
-// The slots, lent, and the head of the free ones. It promises nothing, so that the slots may be lent on.
+// The slots, lent, and the head of the free ones. It promises nothing: a move breaks the chains on the way, and what it
+// does to each column of the slots is proved by itself. That an index is below the number of slots comes from the chains,
+// so the steps of a move ask for it.
 #[derive(Drop)]
 pub(crate) struct Table<'a, T> {
     pub(crate) slots: &'a mut [Slot<T>],
     pub(crate) free: Option<u16>,
 }
 
+#[tactic(auto, using(crate::proofs::Columns::columns))]
 impl<'a, T: Copy + Drop> Table<'a, T> {
-    // Puts the entry into the first free slot, `here`.
+    // Makes every slot free and every chain empty, whatever the slots held.
+    pub(crate) fn over(slots: &'a mut [Slot<T>]) -> Table<'a, T>
+        requires { length slots.old ≤ 1024 }
+        ensures size { length result.slots.now ≡ length slots.old }
+        ensures free { result.free ≡ below (length result.slots.now) }
+        ensures cleared { Cleared result.slots.now (length result.slots.now) }
+    {
+        let mut free = None;
+        for (i, slot) in slots.iter_mut().enumerate() {
+            *slot = Slot {
+                entry: None,
+                link: free,
+                head: None,
+            };
+            free = Some(i as u16);
+        }
+        Table { slots, free }
+    }
+
+    // Where a walk goes on from the slot.
+    fn behind(&self, here: u16) -> Cursor
+        requires { here < length self.now.slots.now }
+        ensures { Follows (links self.now.slots.now) here result.before result.at }
+    {
+        Cursor {
+            before: Some(here),
+            at: self.slots[here as usize].link,
+        }
+    }
+
+    // Takes the first free slot, `here`, out of the free ones and puts it in front of the chain of the entry's mark.
     pub(crate) fn insert(&mut self, here: u16, entry: Entry<T>)
         requires { here < length self.old.slots.now }
         ensures free { self.new.free ≡ slice_index_or (links self.old.slots.now) here None }
-        ensures moved { Columns self.new.slots.now (slice_set (entries self.old.slots.now) here entry) (slice_set (links self.old.slots.now) here (slice_index_or (heads self.old.slots.now) (entry.mark % length self.old.slots.now) None)) (slice_set (heads self.old.slots.now) (entry.mark % length self.old.slots.now) (Some here)) }
+        ensures moved { Columns self.new.slots.now (slice_set (entries self.old.slots.now) here (Some entry)) (slice_set (links self.old.slots.now) here (slice_index_or (heads self.old.slots.now) (entry.mark % length self.old.slots.now) None)) (slice_set (heads self.old.slots.now) (entry.mark % length self.old.slots.now) (Some here)) }
     {
-        let rest = occupy(self.slots, here, entry);
-        self.free = rest;
+        let i = here as usize;
+        let chain = entry.mark as usize % self.slots.len();
+        self.free = self.slots[i].link;
+        self.slots[i] = Slot {
+            entry: Some(entry),
+            link: self.slots[chain].head,
+            ..self.slots[i]
+        };
+        self.slots[chain].head = Some(here);
+    }
+
+    // Takes the slot out of its chain: what points to it, the slot before it or else the head, points to the next one.
+    fn unlink(&mut self, spot: Spot)
+        requires { SpotInside self.old.slots.now spot }
+        ensures free { self.new.free ≡ self.old.free }
+        ensures moved { Columns self.new.slots.now (entries self.old.slots.now) (relinked spot.before (slice_index_or (links self.old.slots.now) spot.here None) (links self.old.slots.now)) (reheaded spot.before spot.chain (slice_index_or (links self.old.slots.now) spot.here None) (heads self.old.slots.now)) }
+    {
+        let next = self.slots[spot.here as usize].link;
+        match spot.before {
+            None => self.slots[spot.chain].head = next,
+            Some(before) => self.slots[before as usize].link = next,
+        }
     }
 
     // Takes the slot out of its chain, and makes it the first free one.
-    pub(crate) fn remove(&mut self, chain: usize, spot: Spot)
-        requires chain { chain < length self.old.slots.now }
-        requires before { IfSome spot.before (λ p. p < length self.old.slots.now) }
-        requires here { spot.here < length self.old.slots.now }
+    pub(crate) fn remove(&mut self, spot: Spot)
+        requires { SpotInside self.old.slots.now spot }
         ensures free { self.new.free ≡ Some spot.here }
-        ensures moved { (e : Entry T) → Columns self.new.slots.now (slice_set (entries self.old.slots.now) spot.here (spent (slice_index_or (entries self.old.slots.now) spot.here e))) (slice_set (relinked spot.before (slice_index_or (links self.old.slots.now) spot.here None) (links self.old.slots.now)) spot.here self.old.free) (reheaded spot.before chain (slice_index_or (links self.old.slots.now) spot.here None) (heads self.old.slots.now)) }
+        ensures moved { Columns self.new.slots.now (slice_set (entries self.old.slots.now) spot.here None) (slice_set (relinked spot.before (slice_index_or (links self.old.slots.now) spot.here None) (links self.old.slots.now)) spot.here self.old.free) (reheaded spot.before spot.chain (slice_index_or (links self.old.slots.now) spot.here None) (heads self.old.slots.now)) }
     {
-        let free = self.free;
-        release(self.slots, chain, spot.before, spot.here, free);
+        let i = spot.here as usize;
+        self.unlink(spot);
+        self.slots[i] = Slot {
+            entry: None,
+            link: self.free,
+            ..self.slots[i]
+        };
         self.free = Some(spot.here);
+    }
+}
+
+#[tactic(auto, using(crate::proofs::Columns::columns))]
+impl<'a, T: Kind + Copy + Drop> Table<'a, T> {
+    // The number of the chain that an item is looked for in.
+    fn chain_for(&self, item: &T) -> usize
+        requires { 0 < length self.now.slots.now }
+        ensures value { result ≡ T.Kind.mark_of item.now % length self.now.slots.now }
+        ensures below { result < length self.now.slots.now }
+    {
+        item.mark() as usize % self.slots.len()
+    }
+
+    // Whether the slot is in use, with an item that is the same.
+    fn holds(&self, here: u16, item: &T) -> bool
+        requires { here < length self.now.slots.now }
+        ensures { result ≡ hit_at T.Kind.same (entries self.now.slots.now) item.now here }
+    {
+        self.slots[here as usize]
+            .entry
+            .is_some_and(|entry| item.is_same(&entry.binding.item))
+    }
+
+    // Walks along the chain of the item to the slot that has a same one. The walk is a loop and no iterator: that would
+    // have to carry the chain that is ahead in its type, to show that it ends and stays inside, for this one use.
+    pub(crate) fn locate(&self, item: &T) -> Option<Spot>
+        requires { ∥ Sound self.now.slots.now self.now.free ∥₁ }
+        ensures { MatchOption result (Missing T.Kind.same self.now.slots.now item.now (T.Kind.mark_of item.now % length self.now.slots.now)) (λ s. (s.chain ≡ T.Kind.mark_of item.now % length self.now.slots.now) × Located T.Kind.same self.now.slots.now item.now s) }
+    {
+        if self.slots.is_empty() {
+            return None;
+        }
+        let chain = self.chain_for(item);
+        let mut cursor = Cursor {
+            before: None,
+            at: self.slots[chain].head,
+        };
+        while let Some(here) = cursor.at {
+            if self.holds(here, item) {
+                return Some(Spot {
+                    chain,
+                    before: cursor.before,
+                    here,
+                });
+            }
+            cursor = self.behind(here);
+        }
+        None
     }
 }

@@ -5,6 +5,8 @@ use Rattle.std.proofs.lemmas.Int.Digits.{number_push}
 use Rattle.std.proofs.ByRecursion.{All-append}
 use Rattle.std.proofs.lemmas.List.{length-append, length-replicate, length-reverse, reverse-reverse}
 use Rattle.std.specs.Int.Digits.{AllBelowBase}
+use Rattle.std.proofs.lemmas.List.Elements.{recursion_from_All, All-replicate}
+use Rattle.items.proofs.Turned.{all_reverse}
 use Rattle.items.specs.Gtins.{weighted, check_sum_lem, checked, number_of, filled}
 
 -- ---- a zero weighs nothing
@@ -49,22 +51,14 @@ from_right_tells (d ∷ ds) (e ∷ es) long u v same =
     let tail : ds ≡ es = from_right_tells ds es (omega arith) u.1 v.1 rest in
     cc
 
-under_reversed : (ds : List ℕ) → AllBelowBase 10 ds → AllBelowBase 10 (reverse ds)
-under_reversed [] u = tt
-under_reversed (d ∷ ds) u = rw (reverse-cons d ds) (All-append (λ n. n < 10) (reverse ds) (d ∷ []) (under_reversed ds u.1) (u.0, tt))
-
 number_of_tells : (ds es : List ℕ) → length ds ≡ length es → AllBelowBase 10 ds → AllBelowBase 10 es → number_of ds ≡ number_of es → ds ≡ es
 number_of_tells ds es long u v same =
     let read : (cs : List ℕ) → number_of cs ≡ from_right (reverse cs) = λ cs. ap number_of (sym (reverse-reverse cs)) ∙ number_of_from_right (reverse cs) in
     let turned : reverse ds ≡ reverse es =
-    from_right_tells (reverse ds) (reverse es) (omega (arith, length-reverse ds, length-reverse es)) (under_reversed ds u) (under_reversed es v) (sym (read ds) ∙ same ∙ read es) in
+    from_right_tells (reverse ds) (reverse es) (omega (arith, length-reverse ds, length-reverse es)) (all_reverse (λ n. n < 10) ds u) (all_reverse (λ n. n < 10) es v) (sym (read ds) ∙ same ∙ read es) in
     sym (reverse-reverse ds) ∙ ap reverse turned ∙ reverse-reverse es
 
 -- ---- filled to fourteen digits
-
-under_zeros : (k : ℕ) → AllBelowBase 10 (replicate k 0)
-under_zeros zero = tt
-under_zeros (suc k) = (omega arith, under_zeros k)
 
 pub filled_tells : (ds es : List ℕ) → length ds ≤ 14 → length es ≤ 14 → AllBelowBase 10 ds → AllBelowBase 10 es → number_of ds ≡ number_of es → filled ds ≡ filled es
 filled_tells ds es short short' u v same =
@@ -75,4 +69,5 @@ filled_tells ds es short short' u v same =
     wide cs s = omega (arith, length-append (replicate (14 - length cs) 0) cs, length-replicate {A = ℕ} (14 - length cs) 0)
 
     under_filled : (cs : List ℕ) → AllBelowBase 10 cs → AllBelowBase 10 (filled cs)
-    under_filled cs = All-append (λ n. n < 10) (replicate (14 - length cs) 0) cs (under_zeros (14 - length cs))
+    under_filled cs = All-append (λ n. n < 10) (replicate (14 - length cs) 0) cs
+        (recursion_from_All (λ n. n < 10) (replicate (14 - length cs) 0) (All-replicate (λ n. n < 10) (14 - length cs) 0 (omega arith)))

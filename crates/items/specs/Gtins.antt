@@ -1,6 +1,10 @@
 -- GTINs, the article numbers of GS1, as lists of decimal digits, the last of which is the check digit.
-use Rattle.std.specs.Prelude.{ℕ, ◌+◌, ◌-◌, ◌*◌, ◌%◌, Bool, List, [], ◌∷◌, ◌++◌, reverse, length, replicate, ◌==◌}
+use Rattle.std.specs.Prelude.{ℕ, ◌+◌, ◌-◌, ◌*◌, ◌%◌, Bool, cond, List, [], ◌∷◌, ◌++◌, reverse, length, replicate, ◌==◌}
 use Rattle.std.specs.Int.Digits.{number_from_digits}
+
+-- The weight of a digit by its place from the right, where the check digit is at 0: 1 and 3 take turns.
+abbrev pub weight_at : ℕ → ℕ
+weight_at place = cond (place % 2 == 0) 1 3
 
 -- The digits, each times its weight, added up: weights 3 and 1 (4 - 3 and 4 - 1) take turns, and w is the first.
 abbrev pub weighted : ℕ → List ℕ → ℕ

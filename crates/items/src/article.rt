@@ -1,98 +1,104 @@
 // An article: a GTIN of 8, 12, 13 or 14 digits, whose last digit checks the others.
-ghost use Rattle.std.specs.Prelude.{◌≡◌, ◌+◌, ◌*◌, ◌<◌, ◌≤◌, true, reverse, length};
+ghost use Rattle.std.specs.Prelude.{◌≡◌, true, reverse, length, Some, Ok, MatchResult};
+ghost use Rattle.std.proofs.Props.{props};
 ghost use Rattle.std.specs.Str.{all_ascii_digits};
-ghost use Rattle.items.specs.Gtins.{check_sum_lem, number_of};
+ghost use Rattle.items.specs.Gtins.{check_sum_lem, weight_at, number_of};
 ghost use Rattle.items.specs.ArticleLaws.{ArticleLaws};
-ghost use Rattle.items.specs.Articles.{digits, length_of, digit_count, made_from, same_article, article_mark};
+ghost use Rattle.items.specs.Articles.{digits, length_of, digits_fault, digit_count, made_from, same_article, article_mark};
 ghost use Rattle.std.proofs.Common.{rules};
 
 use crate::fault::ArticleFault;
 use crate::kind::Kind;
 
-// How many digits an article has.
-#[derive(Clone, Copy)]
+// How many digits an article has: each length's value is its number of digits.
+#[derive(Clone, Copy, Debug, PartialEq, Eq, Hash)]
 pub enum Length {
-    Eight,
-    Twelve,
-    Thirteen,
-    Fourteen,
+    Eight = 8,
+    Twelve = 12,
+    Thirteen = 13,
+    Fourteen = 14,
 }
 
-// Made by `Article::from_bytes` alone.
-#[derive(Clone, Copy)]
-pub struct Article {
-    number: u64,
-    length: Length,
-}
+impl TryFrom<usize> for Length {
+    type Error = ArticleFault;
 
-impl Length {
-    fn from_count(count: usize) -> Option<Length>
-        ensures { result ≡ length_of count }
-    {
+    ghost try_from_gives = { λ count made. made ≡ length_of count };
+
+    fn try_from(count: usize) -> Result<Length, ArticleFault> {
         match count {
-            8 => Some(Length::Eight),
-            12 => Some(Length::Twelve),
-            13 => Some(Length::Thirteen),
-            14 => Some(Length::Fourteen),
-            _ => None,
+            8 => Ok(Length::Eight),
+            12 => Ok(Length::Twelve),
+            13 => Ok(Length::Thirteen),
+            14 => Ok(Length::Fourteen),
+            _ => Err(ArticleFault::WrongLength),
         }
     }
+}
+
+// Made by `Article::from_bytes` alone. Two articles of one number are equal, in however many digits.
+#[derive(Clone, Copy)]
+#[derive_where(Debug, PartialEq, Eq, Hash)]
+pub struct Article {
+    number: u64,
+    #[derive_where(skip(EqHashOrd))]
+    length: Length,
 }
 
 fn all_digits(bytes: &[u8]) -> bool
     ensures { result ≡ all_ascii_digits bytes.now }
 {
-    for b in bytes {
-        if !b.is_ascii_digit() {
-            return false;
-        }
-    }
-    true
+    bytes.iter().all(u8::is_ascii_digit)
 }
 
-// The check sum of the digits so far. A digit more on the right turns the weight of every digit before it,
-// so the sum with the last digit three times is kept beside the one with the last digit once.
+// From the right, the digits weigh 1 and 3 by turns: the check digit weighs 1.
+fn weight(place: usize) -> u32
+    ensures { result ≡ weight_at place }
+{
+    if place % 2 == 0 { 1 } else { 3 }
+}
+
+// The bytes of a code that has a right length and nothing but digits.
 #[derive(Clone, Copy)]
-struct Sums {
-    once: u32,
-    thrice: u32,
+struct Digits<'a> {
+    bytes: &'a [u8],
+    count: Length,
+    ghost digits: { all_ascii_digits bytes.now ≡ true },
+    ghost counted: { length_of (length bytes.now) ≡ Ok count } by { Prim.hlevel props },
 }
 
-impl Sums {
-    fn with(self, digit: u32) -> Sums
-        requires { (digit < 10) × ((self.once < 1000) × (self.thrice < 1000)) }
-        ensures once { result.once ≡ self.thrice + digit }
-        ensures thrice { result.thrice ≡ self.once + 3 * digit }
-    {
-        Sums {
-            once: self.thrice + digit,
-            thrice: self.once + 3 * digit,
+impl<'a> TryFrom<&'a [u8]> for Digits<'a> {
+    type Error = ArticleFault;
+
+    ghost try_from_gives = { λ bytes made. MatchResult made (λ d. d.bytes ≡ bytes) (λ why. digits_fault bytes.now ≡ Some why) };
+
+    fn try_from(bytes: &'a [u8]) -> Result<Digits<'a>, ArticleFault> {
+        let count = Length::try_from(bytes.len())?;
+        if !all_digits(bytes) {
+            return Err(ArticleFault::NotADigit);
         }
+        Ok(Digits { bytes, count })
     }
 }
 
-fn check_sum(bytes: &[u8]) -> u32
-    requires digits { all_ascii_digits bytes.now ≡ true }
-    requires short { length bytes.now ≤ 14 }
-    ensures { result ≡ check_sum_lem (reverse (digits bytes.now)) }
-{
-    let mut sums = Sums { once: 0, thrice: 0 };
-    for b in bytes {
-        sums = sums.with(u32::from(*b - b'0'));
+impl Digits<'_> {
+    fn check_sum(&self) -> u32
+        ensures { result ≡ check_sum_lem (reverse (digits self.now.bytes.now)) }
+    {
+        self.bytes
+            .iter()
+            .rev()
+            .enumerate()
+            .map(|(place, b)| u32::from(*b - b'0') * weight(place))
+            .sum()
     }
-    sums.once
-}
 
-fn number(bytes: &[u8]) -> u64
-    requires digits { all_ascii_digits bytes.now ≡ true }
-    requires short { length bytes.now ≤ 14 }
-    ensures { result ≡ number_of (digits bytes.now) }
-{
-    let mut number = 0;
-    for b in bytes {
-        number = number * 10 + u64::from(*b - b'0');
+    fn number(&self) -> u64
+        ensures { result ≡ number_of (digits self.now.bytes.now) }
+    {
+        self.bytes
+            .iter()
+            .fold(0, |number, b| number * 10 + u64::from(*b - b'0'))
     }
-    number
 }
 
 impl Article {
@@ -100,18 +106,13 @@ impl Article {
     pub fn from_bytes(bytes: &[u8]) -> Result<Article, ArticleFault>
         ensures { result ≡ made_from bytes.now }
     {
-        let Some(length) = Length::from_count(bytes.len()) else {
-            return Err(ArticleFault::WrongLength);
-        };
-        if !all_digits(bytes) {
-            return Err(ArticleFault::NotADigit);
-        }
-        if check_sum(bytes) % 10 != 0 {
+        let digits = Digits::try_from(bytes)?;
+        if digits.check_sum() % 10 != 0 {
             return Err(ArticleFault::WrongCheckDigit);
         }
         Ok(Article {
-            number: number(bytes),
-            length,
+            number: digits.number(),
+            length: digits.count,
         })
     }
 }
@@ -132,7 +133,7 @@ impl Kind for Article {
     ghost narrow = { Prim.search rules };
 
     fn is_same(&self, other: &Article) -> bool {
-        self.number == other.number
+        self == other
     }
 
     fn mark(&self) -> u16 {
@@ -144,12 +145,7 @@ impl Kind for Article {
     }
 
     fn width(&self) -> u8 {
-        match self.length {
-            Length::Eight => 8,
-            Length::Twelve => 12,
-            Length::Thirteen => 13,
-            Length::Fourteen => 14,
-        }
+        self.length as u8
     }
 }
 

@@ -2,24 +2,26 @@
 ghost use Rattle.std.specs.Prelude.{◌≡◌};
 ghost use Rattle.items.specs.Faults.{fault_number};
 
-#[derive(Clone, Copy)]
+use thiserror::Error;
+
+// Each fault's value is its number.
+#[derive(Clone, Copy, Debug, PartialEq, Eq, Hash, Error)]
 pub enum ArticleFault {
     // Not 8, 12, 13 or 14 bytes.
-    WrongLength,
+    #[error("a code has 8, 12, 13 or 14 digits")]
+    WrongLength = 9,
     // A byte is no decimal digit.
-    NotADigit,
+    #[error("one of its characters is no digit")]
+    NotADigit = 10,
     // The check digit does not fit the others.
-    WrongCheckDigit,
+    #[error("its check digit is wrong")]
+    WrongCheckDigit = 11,
 }
 
-impl ArticleFault {
-    pub fn number(self) -> u8
-        ensures { result ≡ fault_number self }
-    {
-        match self {
-            ArticleFault::WrongLength => 9,
-            ArticleFault::NotADigit => 10,
-            ArticleFault::WrongCheckDigit => 11,
-        }
+impl From<ArticleFault> for u8 {
+    ghost from_gives = { λ fault number. number ≡ fault_number fault };
+
+    fn from(fault: ArticleFault) -> u8 {
+        fault as u8
     }
 }

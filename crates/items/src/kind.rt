@@ -15,6 +15,7 @@ pub trait Kind {
     // The width: the least number of digits that the figure is printed with.
     ghost width_of: { Self → ℕ };
 
+    // Not `PartialEq`: a kind may have an equality that tells more apart than counting does.
     fn is_same(&self, other: &Self) -> bool
         ensures { result ≡ same self.now other.now };
 

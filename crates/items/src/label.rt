@@ -4,7 +4,7 @@ ghost use Rattle.std.proofs.Common.{rules};
 
 use crate::kind::Kind;
 
-#[derive(Clone, Copy)]
+#[derive(Clone, Copy, Debug, PartialEq, Eq, Hash)]
 pub struct Label {
     pub number: u32,
 }
@@ -25,7 +25,7 @@ impl Kind for Label {
     ghost narrow = { Prim.search rules };
 
     fn is_same(&self, other: &Label) -> bool {
-        self.number == other.number
+        self == other
     }
 
     fn mark(&self) -> u16 {

@@ -1,5 +1,5 @@
 // What is counted: the laws that every kind of item keeps, and two kinds, labels and articles.
-// Uses nothing but `std`.
+// Uses nothing but `std`, and `thiserror` for the texts of the faults.
 #![tactic(auto)]
 
 pub mod article;

@@ -17,23 +17,20 @@ const PUBLISHED: [&[u8]; 8] = [
 
 // The figure and the width of the article, or the number of the fault.
 fn outcome(code: &[u8]) -> Result<(u64, u8), u8> {
-    match Article::from_bytes(code) {
-        Ok(article) => Ok((article.figure(), article.width())),
-        Err(fault) => Err(fault.number()),
-    }
+    Article::from_bytes(code)
+        .map(|article| (article.figure(), article.width()))
+        .map_err(u8::from)
 }
 
-// The code with another digit at `at`.
+// The code with another digit at `at`, and zeros behind it: in fixed memory, since a Vec would ask each test for an allocator.
 fn spoiled(code: &[u8], at: usize) -> [u8; 14] {
     let mut bytes = [b'0'; 14];
-    for (i, b) in code.iter().enumerate() {
-        if i < 14 {
-            bytes[i] = if i == at {
-                b'0' + b.wrapping_sub(b'0').wrapping_add(1) % 10
-            } else {
-                *b
-            };
-        }
+    for (slot, (i, b)) in bytes.iter_mut().zip(code.iter().enumerate()) {
+        *slot = if i == at {
+            b'0' + b.wrapping_sub(b'0').wrapping_add(1) % 10
+        } else {
+            *b
+        };
     }
     bytes
 }
@@ -62,14 +59,8 @@ fn one_wrong_digit_is_refused(rt: HostRuntime) {
 #[test]
 fn widths_do_not_part_an_article(rt: HostRuntime) -> Result<(), Fail> {
     assert_eq!(rt; outcome(b"2000000000009"), Err(11));
-    let short = match Article::from_bytes(b"2000000000008") {
-        Ok(article) => article,
-        Err(_) => return Err(Fail::new("13 digits")),
-    };
-    let long = match Article::from_bytes(b"02000000000008") {
-        Ok(article) => article,
-        Err(_) => return Err(Fail::new("14 digits")),
-    };
+    let short = Article::from_bytes(b"2000000000008")?;
+    let long = Article::from_bytes(b"02000000000008")?;
     assert!(rt; short.is_same(&long));
     assert_eq!(rt; short.width(), 13);
     assert_eq!(rt; long.width(), 14);

@@ -25,7 +25,3 @@ module _ {X : Type 0} (P : X → Type 0) where
   pub all_in : (ls : List X) (y : X) (rs : List X) → P y → Each P (ls ++ rs) → Each P (ls ++ y ∷ rs)
   all_in [] y rs p a = (p, a)
   all_in (x ∷ ls) y rs p a = (a.0, all_in ls y rs p a.1)
-
-pub all_both : {X : Type 0} (P Q : X → Type 0) (xs : List X) → Each P xs → Each Q xs → Each (λ x. P x × Q x) xs
-all_both P Q [] p q = tt
-all_both P Q (x ∷ xs) p q = ((p.0, q.0), all_both P Q xs p.1 q.1)

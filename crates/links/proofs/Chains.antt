@@ -1,13 +1,8 @@
 -- Chains: parts of one, what one rests on, and the two writes that take a place out or put one in.
-use Rattle.std.proofs.Common.{◌≡◌, ℕ, List, [], ◌∷◌, ◌++◌, Some, None, Option, sym, refl, ap, ◌∙◌, arith}
+use Rattle.std.proofs.Common.{◌≡◌, ℕ, List, [], ◌∷◌, ◌++◌, Some, None, Option, sym, refl, ap, ◌∙◌}
+use Rattle.std.proofs.lemmas.Option.{same_Some}
 use Rattle.links.specs.Chains.{first_or, last_or, Chain, Off, Apart, Cross}
 use Rattle.links.proofs.Places.{apart_left, apart_right, apart_cross, apart_out, cross_first, cross_rest}
-
-pub some_inj : (i j : ℕ) → ◌≡◌ {A = Option ℕ} (Some i) (Some j) → i ≡ j
-some_inj i j e = cc
-
-pub some_none : (i : ℕ) → ◌≡◌ {A = Option ℕ} (Some i) None → ⊥
-some_none i e = let z : ◌≡◌ {A = ℕ} 0 1 = cc in omega arith
 
 -- ---- what is written, and what is left
 
@@ -28,11 +23,11 @@ Same f g (x ∷ xs) = (g x ≡ f x) × Same f g xs
 
 pub clear_none : (xs : List ℕ) → Clear None xs
 clear_none [] = tt
-clear_none (x ∷ xs) = (some_none x, clear_none xs)
+clear_none (x ∷ xs) = ((λ e. cc), clear_none xs)
 
 pub clear_off : (z : ℕ) (xs : List ℕ) → Off z xs → Clear (Some z) xs
 clear_off z [] o = tt
-clear_off z (x ∷ xs) o = ((λ q. o.0 (some_inj x z q)), clear_off z xs o.1)
+clear_off z (x ∷ xs) o = ((λ q. o.0 (same_Some x z q)), clear_off z xs o.1)
 
 module _ {M : Type 0} (f g : ℕ → M) where
   wrote_clear : (l : Option ℕ) (v : M) (xs : List ℕ) → Clear l xs → Wrote f g l v xs → Same f g xs
@@ -78,7 +73,7 @@ last_or_append p (x ∷ xs) ys = last_or_append (Some x) xs ys
 -- The last of some places is none that is off them.
 off_last : (x : ℕ) (p : Option ℕ) (xs : List ℕ) → (Some x ≡ p → ⊥) → Off x xs → Some x ≡ last_or p xs → ⊥
 off_last x p [] ne o e = ne e
-off_last x p (y ∷ ys) ne o e = off_last x (Some y) ys (λ q. o.0 (sym (some_inj x y q))) o.1 e
+off_last x p (y ∷ ys) ne o e = off_last x (Some y) ys (λ q. o.0 (sym (same_Some x y q))) o.1 e
 
 -- The last of xs leads to none of zs, and the first of zs to none of xs.
 pub clear_last : (p : Option ℕ) (xs zs : List ℕ) → Clear p zs → Cross xs zs → Clear (last_or p xs) zs
@@ -118,7 +113,7 @@ module _ (next prev next' prev' : ℕ → Option ℕ) where
   chain_relast p (x ∷ []) n v a w s h = (s.0 ∙ h.0, w.1 refl, tt)
   chain_relast p (x ∷ y ∷ ys) n v a w s h = (
     s.0 ∙ h.0,
-    w.0 (off_last x (Some y) ys (λ q. a.0.0 (sym (some_inj x y q))) a.0.1) ∙ h.1,
+    w.0 (off_last x (Some y) ys (λ q. a.0.0 (sym (same_Some x y q))) a.0.1) ∙ h.1,
     chain_relast (Some x) (y ∷ ys) n v a.1 w.2 s.1 h.2,
   )
 

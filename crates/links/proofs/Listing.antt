@@ -1,5 +1,6 @@
 -- Lists in a table: one place out, one in, and what leaves a list as it is.
 use Rattle.std.proofs.Common.{◌≡◌, ℕ, ◌<◌, List, [], ◌∷◌, ◌++◌, length, Some, None, Option, refl, ap, ◌∙◌}
+use Rattle.std.proofs.lemmas.Option.{same_Some}
 use Rattle.links.specs.declared.ends.Ends.{Ends}
 use Rattle.links.specs.Tables.{read, edit_at}
 use Rattle.links.specs.Chains.{first_or, last_or, Off, Cross, Within}
@@ -8,7 +9,7 @@ use Rattle.links.specs.Lists.{Chained, Listed, Unlinked, Linked, next_in, prev_i
 use Rattle.links.proofs.Alls.{all_out, all_in}
 use Rattle.links.proofs.Places.{apart_out, apart_in, cross_left, cross_right, cross_sym}
 use Rattle.links.proofs.Tables.{read_same, read_other, read_kept, read_kept_at, length_edit_at}
-use Rattle.links.proofs.Chains.{some_inj, some_none, Clear, Wrote, Same, clear_none, clear_first, clear_last, clear_off, wrote_same, same_wrote, same_then, same_all, chain_right, chain_frame, chain_unlink, chain_link, last_or_append}
+use Rattle.links.proofs.Chains.{Clear, Wrote, Same, clear_none, clear_first, clear_last, clear_off, wrote_same, same_wrote, same_then, same_all, chain_right, chain_frame, chain_unlink, chain_link, last_or_append}
 
 -- ---- a field of the places of a list after an edit
 
@@ -29,10 +30,10 @@ module _ {A M : Type 0} (f : A → M) (d : M) (e : A → A) (t : List A) where
   -- Where e writes v into it.
   wrote_edit : (v : M) → ((x : A) → f (e x) ≡ v) → (l : Option ℕ) (xs : List ℕ) → Within (length t) xs → Wrote (read f d t) (read f d (edit_at l e t)) l v xs
   wrote_edit v q l [] w = tt
-  wrote_edit v q None (x ∷ xs) w = ((λ n. refl), (λ p. absurd (some_none x p)), wrote_edit v q None xs w.1)
+  wrote_edit v q None (x ∷ xs) w = ((λ n. refl), (λ p. absurd cc), wrote_edit v q None xs w.1)
   wrote_edit v q (Some i) (x ∷ xs) w = (
     (λ n. read_other f d e t i x (λ p. n (ap Some p))),
-    (λ p. let g : i < length t = rw (← some_inj x i p) w.0 in rw (some_inj x i p) (read_same f d e v q t i g)),
+    (λ p. let g : i < length t = rw (← same_Some x i p) w.0 in rw (same_Some x i p) (read_same f d e v q t i g)),
     wrote_edit v q (Some i) xs w.1,
   )
 

@@ -1,5 +1,5 @@
 -- Reading after an edit: what a field is at the edited place and at every other, and that a table keeps its length.
-use Rattle.std.proofs.Common.{◌≡◌, ℕ, zero, suc, ◌<◌, ◌≤◌, List, [], ◌∷◌, length, get_or, set, Some, None, Option, refl, ap, le_of_suc-le-suc, not-suc-le-zero}
+use Rattle.std.proofs.Common.{◌≡◌, ℕ, zero, suc, ◌<◌, ◌≤◌, List, [], ◌∷◌, length, get_or, set, Some, None, Option, refl, ap, sym, ◌∙◌, le_of_suc-le-suc, not-suc-le-zero}
 use Rattle.links.specs.Tables.{read, edit, edit_at}
 
 module _ {A : Type 0} where
@@ -9,22 +9,14 @@ module _ {A : Type 0} where
   set_edit e (x ∷ t) zero d = refl
   set_edit e (x ∷ t) (suc i) d = ap (λ (s : List A). x ∷ s) (set_edit e t i d)
 
-  -- Two stores at one place are one edit.
-  pub set_edit_twice : (e e' : A → A) (t : List A) (i : ℕ) (d d' : A) → set (set t i (e (get_or t i d))) i (e' (get_or (set t i (e (get_or t i d))) i d')) ≡ edit (λ x. e' (e x)) i t
-  set_edit_twice e e' [] i d d' = refl
-  set_edit_twice e e' (x ∷ t) zero d d' = refl
-  set_edit_twice e e' (x ∷ t) (suc i) d d' = ap (λ (s : List A). x ∷ s) (set_edit_twice e e' t i d d')
-
   pub edit_past : (e : A → A) (t : List A) (i : ℕ) → length t ≤ i → t ≡ edit e i t
   edit_past e [] i h = refl
   edit_past e (x ∷ t) zero h = absurd (not-suc-le-zero h)
   edit_past e (x ∷ t) (suc i) h = ap (λ (s : List A). x ∷ s) (edit_past e t i (le_of_suc-le-suc h))
 
-  pub put_at : (e : A → A) (t : List A) (l : Option ℕ) (i : ℕ) (d : A) → l ≡ Some i → set t i (e (get_or t i d)) ≡ edit_at l e t
-  put_at e t l i d h = rw h (set_edit e t i d)
-
-  pub put_past : (e : A → A) (t : List A) (l : Option ℕ) (i : ℕ) → l ≡ Some i → length t ≤ i → t ≡ edit_at l e t
-  put_past e t l i h k = rw h (edit_past e t i k)
+  -- What a store behind a place's reference leaves.
+  pub put_place : (e : A → A) (t : List A) (i : ℕ) (x y : A) → x ≡ get_or t i x → y ≡ e x → set t i y ≡ edit e i t
+  put_place e t i x y h k = let e' : y ≡ e (get_or t i x) = k ∙ ap e h in rw e' (set_edit e t i x)
 
   pub length_edit : (e : A → A) (i : ℕ) (t : List A) → length (edit e i t) ≡ length t
   length_edit e i [] = refl
@@ -40,6 +32,10 @@ module _ {A : Type 0} where
     read_within [] i x h = absurd (not-suc-le-zero h)
     read_within (y ∷ t) zero x h = refl
     read_within (y ∷ t) (suc i) x h = read_within t i x (le_of_suc-le-suc h)
+
+    -- What a slice's `get` and an index give.
+    pub read_found : (t : List A) (i : ℕ) (x : A) → i < length t → x ≡ get_or t i x → read f d t i ≡ f x
+    read_found t i x h e = read_within t i x h ∙ ap f (sym e)
 
     pub read_past : (t : List A) (i : ℕ) → length t ≤ i → read f d t i ≡ d
     read_past [] i h = refl

@@ -3,7 +3,8 @@ use Rattle.std.specs.Prelude.{◌≡◌, ℕ, ◌<◌, List, ◌∷◌, ◌++◌
 use Rattle.links.specs.declared.ends.Ends.{Ends}
 use Rattle.links.specs.Tables.{read, edit_at}
 use Rattle.links.specs.Chains.{Chain, Apart, Off, Within, first_or, last_or}
-use Rattle.links.specs.Kinds.{Accessors}
+use Rattle.links.specs.declared.neighbours.Side.{Side}
+use Rattle.links.specs.Kinds.{Accessors, link_of}
 
 -- The links of the place i of a table.
 abbrev pub next_in : {A : Type 0} → Accessors A → List A → ℕ → Option ℕ
@@ -11,6 +12,10 @@ next_in k t i = read k.next None t i
 
 abbrev pub prev_in : {A : Type 0} → Accessors A → List A → ℕ → Option ℕ
 prev_in k t i = read k.prev None t i
+
+-- The same by the side of the link.
+abbrev pub link_in : {A : Type 0} → Accessors A → Side → List A → ℕ → Option ℕ
+link_in k side t i = read (link_of k side) None t i
 
 -- The places xs of the table are a list of the kind k.
 pub record Chained {A : Type 0} (k : Accessors A) (t : List A) (xs : List ℕ) : Type 0 where

@@ -1,22 +1,18 @@
 // A kind of list: which fields of a place hold its links.
 ghost use Rattle.std.specs.Prelude.{◌≡◌};
-ghost use Rattle.links.specs.Kinds.{Accessors, Lawful};
+ghost use Rattle.links.specs.Kinds.{Accessors, Lawful, link_of, put_link};
+
+use crate::neighbours::Side;
 
 pub trait Links<P> {
     // How the two links of a place are read, and what a place is once one of them is written.
     ghost accessors: { Accessors P };
 
-    fn next(place: &P) -> Option<u16>
-        ensures { result ≡ accessors.next place.now };
+    fn link(place: &P, side: Side) -> Option<u16>
+        ensures { result ≡ link_of accessors side place.now };
 
-    fn prev(place: &P) -> Option<u16>
-        ensures { result ≡ accessors.prev place.now };
-
-    fn set_next(place: &mut P, link: Option<u16>)
-        ensures { place.new ≡ accessors.put_next link place.old };
-
-    fn set_prev(place: &mut P, link: Option<u16>)
-        ensures { place.new ≡ accessors.put_prev link place.old };
+    fn set_link(place: &mut P, side: Side, link: Option<u16>)
+        ensures { place.new ≡ put_link accessors side link place.old };
 
     ghost lawful: { Lawful accessors };
 }

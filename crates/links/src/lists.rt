@@ -1,52 +1,45 @@
 // Taking a place out of a list and putting one in, each by a constant number of accesses.
 ghost use Rattle.std.specs.Prelude.{◌≡◌, Some, None};
+ghost use Rattle.std.specs.Borrow.{sem};
+ghost use Rattle.std.specs.List.{IsItemAtMut};
+ghost use Rattle.std.specs.Slice.{slice_follows_get};
+ghost use Rattle.links.specs.Kinds.{put_link};
 ghost use Rattle.links.specs.Tables.{edit_at};
-ghost use Rattle.links.specs.Lists.{next_in, prev_in, unlinking, linking, end_out_lem, ends_in, Unlinked, Linked};
+ghost use Rattle.links.specs.Lists.{link_in, unlinking, linking, end_out_lem, ends_out, ends_in, Unlinked, Linked};
 
 use crate::ends::Ends;
 use crate::kind::Links;
+use crate::neighbours::{Neighbours, Side};
 
-/// The link on from the place `at`.
-pub fn next_of<P, K: Links<P>>(places: &[P], at: u16) -> Option<u16>
-    ensures { result ≡ next_in K.Links.accessors places.now at }
+/// The link from the place `at` to its neighbour on a side.
+#[tactic(auto, using(crate::proofs::Tables::read_found, crate::proofs::Tables::read_past))]
+pub fn neighbour<P, K: Links<P>>(places: &[P], side: Side, at: u16) -> Option<u16>
+    ensures { result ≡ link_in K.Links.accessors side places.now at }
+{
+    K::link(places.get(at as usize)?, side)
+}
+
+/// The place `at`, to be written; none past the table's end. A slice's `get_mut` does not say what the slice then holds.
+pub fn place_mut<P>(places: &mut [P], at: u16) -> Option<&mut P>
+    ensures item { IsItemAtMut places.old at result }
+    ensures* writes_back { sem 𝓛 (slice_follows_get P.row places.entry at result) }
 {
     if (at as usize) < places.len() {
-        K::next(&places[at as usize])
+        Some(&mut places[at as usize])
     } else {
         None
     }
 }
 
-/// The link back from the place `at`.
-pub fn prev_of<P, K: Links<P>>(places: &[P], at: u16) -> Option<u16>
-    ensures { result ≡ prev_in K.Links.accessors places.now at }
+// Writes the link on a side of the place that `at` leads to, if it leads to one.
+#[tactic(auto, using(crate::proofs::Tables::put_place, crate::proofs::Tables::edit_past))]
+fn put<P, K: Links<P>>(places: &mut [P], side: Side, at: Option<u16>, link: Option<u16>)
+    ensures { places.new ≡ edit_at at (put_link K.Links.accessors side link) places.old }
 {
-    if (at as usize) < places.len() {
-        K::prev(&places[at as usize])
-    } else {
-        None
-    }
-}
-
-// Writes the link on from the place that `at` leads to, if it leads to one.
-fn put_next<P, K: Links<P>>(places: &mut [P], at: Option<u16>, link: Option<u16>)
-    ensures { places.new ≡ edit_at at (K.Links.accessors.put_next link) places.old }
-{
-    if let Some(i) = at {
-        if (i as usize) < places.len() {
-            K::set_next(&mut places[i as usize], link);
-        }
-    }
-}
-
-// Writes the link back from the place that `at` leads to, if it leads to one.
-fn put_prev<P, K: Links<P>>(places: &mut [P], at: Option<u16>, link: Option<u16>)
-    ensures { places.new ≡ edit_at at (K.Links.accessors.put_prev link) places.old }
-{
-    if let Some(i) = at {
-        if (i as usize) < places.len() {
-            K::set_prev(&mut places[i as usize], link);
-        }
+    if let Some(i) = at
+        && let Some(place) = place_mut(places, i)
+    {
+        K::set_link(place, side, link);
     }
 }
 
@@ -54,57 +47,58 @@ fn put_prev<P, K: Links<P>>(places: &mut [P], at: Option<u16>, link: Option<u16>
 fn end_out(near: Option<u16>, far: Option<u16>, end: Option<u16>) -> Option<u16>
     ensures { result ≡ end_out_lem near far end }
 {
-    match near {
-        None => far,
-        Some(_) => end,
+    if near.is_some() { end } else { far }
+}
+
+impl Ends {
+    // Makes the neighbours of the place `at` each other's, and the ends what they then are.
+    fn skip<P, K: Links<P>>(&mut self, places: &mut [P], at: u16)
+        ensures table { places.new ≡ unlinking K.Links.accessors at places.old }
+        ensures ends { self.new ≡ ends_out K.Links.accessors places.old at self.old }
+    {
+        let prev = neighbour::<P, K>(places, Side::Prev, at);
+        let next = neighbour::<P, K>(places, Side::Next, at);
+        put::<P, K>(places, Side::Next, prev, next);
+        put::<P, K>(places, Side::Prev, next, prev);
+        self.first = end_out(prev, next, self.first);
+        self.last = end_out(next, prev, self.last);
     }
-}
 
-/// Takes the place `at` out of its list, whose ends are `ends`, and answers the ends that the list then has.
-pub fn unlink<P, K: Links<P>>(places: &mut [P], ends: Ends, at: u16) -> Ends
-    ensures { Unlinked K.Links.accessors places.old places.new at ends result }
-{
-    let prev = prev_of::<P, K>(places, at);
-    let next = next_of::<P, K>(places, at);
-    put_next::<P, K>(places, prev, next);
-    put_prev::<P, K>(places, next, prev);
-    Ends {
-        first: end_out(prev, next, ends.first),
-        last: end_out(next, prev, ends.last),
+    /// Takes the place `at` out of the list with these ends.
+    pub fn unlink<P, K: Links<P>>(&mut self, places: &mut [P], at: u16)
+        ensures { Unlinked K.Links.accessors places.old places.new at self.old self.new }
+    {
+        self.skip::<P, K>(places, at);
     }
-}
 
-// Writes the four links that put the place `at` in between those that `before` and `after` lead to.
-fn tie<P, K: Links<P>>(places: &mut [P], before: Option<u16>, after: Option<u16>, at: u16)
-    ensures { places.new ≡ linking K.Links.accessors before after at places.old }
-{
-    put_next::<P, K>(places, before, Some(at));
-    put_prev::<P, K>(places, after, Some(at));
-    put_next::<P, K>(places, Some(at), after);
-    put_prev::<P, K>(places, Some(at), before);
-}
-
-/// Puts the place `at`, which is in no list of this kind, in between the neighbours that `before` and `after` lead to
-/// in the list with the ends `ends`, and answers the ends that it then has.
-pub fn link<P, K: Links<P>>(
-    places: &mut [P],
-    ends: Ends,
-    before: Option<u16>,
-    after: Option<u16>,
-    at: u16,
-) -> Ends
-    ensures { Linked K.Links.accessors places.old places.new before after at ends result }
-{
-    tie::<P, K>(places, before, after, at);
-    Ends {
-        first: end_out(before, Some(at), ends.first),
-        last: end_out(after, Some(at), ends.last),
+    // Writes the four links that put the place `at` in between the neighbours, and the ends.
+    fn tie<P, K: Links<P>>(&mut self, places: &mut [P], beside: Neighbours, at: u16)
+        ensures table { places.new ≡ linking K.Links.accessors beside.prev beside.next at places.old }
+        ensures ends { self.new ≡ ends_in beside.prev beside.next at self.old }
+    {
+        put::<P, K>(places, Side::Next, beside.prev, Some(at));
+        put::<P, K>(places, Side::Prev, beside.next, Some(at));
+        put::<P, K>(places, Side::Next, Some(at), beside.next);
+        put::<P, K>(places, Side::Prev, Some(at), beside.prev);
+        self.first = end_out(beside.prev, Some(at), self.first);
+        self.last = end_out(beside.next, Some(at), self.last);
     }
-}
 
-/// Puts the place `at`, which is in no list of this kind, at the end of the list with the ends `ends`.
-pub fn append<P, K: Links<P>>(places: &mut [P], ends: Ends, at: u16) -> Ends
-    ensures { Linked K.Links.accessors places.old places.new ends.last None at ends result }
-{
-    link::<P, K>(places, ends, ends.last, None, at)
+    /// Puts the place `at`, which is in no list of this kind, into the list with these ends, in between two neighbours there.
+    pub fn link<P, K: Links<P>>(&mut self, places: &mut [P], beside: Neighbours, at: u16)
+        ensures { Linked K.Links.accessors places.old places.new beside.prev beside.next at self.old self.new }
+    {
+        self.tie::<P, K>(places, beside, at);
+    }
+
+    /// Puts the place `at`, which is in no list of this kind, at the end of the list with these ends.
+    pub fn append<P, K: Links<P>>(&mut self, places: &mut [P], at: u16)
+        ensures { Linked K.Links.accessors places.old places.new self.old.last None at self.old self.new }
+    {
+        let beside = Neighbours {
+            prev: self.last,
+            next: None,
+        };
+        self.link::<P, K>(places, beside, at);
+    }
 }

@@ -1,9 +1,9 @@
 -- Lists from the front: what is first behind i elements, and the front with one element more.
-use Rattle.std.proofs.Common.{◌≡◌, ℕ, zero, suc, ◌+◌, ◌<◌, ◌≤◌, List, [], ◌∷◌, ◌++◌, length, get_or, take, drop, Some, None, refl, ap, le_of_suc-le-suc, not-suc-le-zero, add-one, arith}
-use Rattle.lists.specs.Walks.{first}
+use Rattle.std.proofs.Common.{◌≡◌, ℕ, zero, suc, ◌+◌, ◌<◌, ◌≤◌, List, [], ◌∷◌, ◌++◌, length, get_or, take, drop, Some, None, Option, sym, refl, ap, ◌∙◌, le_of_suc-le-suc, not-suc-le-zero, add-one, arith}
 
-pub some_is_not_none : {X : Type 0} {x : X} → Some x ≡ None → ⊥
-some_is_not_none e = let z : ◌≡◌ {A = ℕ} 0 1 = cc in omega arith
+abbrev pub first : {X : Type 0} → List X → Option X
+first [] = None
+first (x ∷ xs) = Some x
 
 -- x is the element of the list behind i others.
 pub record Next {X : Type 0} (xs : List X) (i : ℕ) (x : X) : Type 0 where
@@ -14,14 +14,8 @@ pub record Next {X : Type 0} (xs : List X) (i : ℕ) (x : X) : Type 0 where
 module _ {X : Type 0} where
   pub first_none : (xs : List X) (i : ℕ) → first (drop i xs) ≡ None → length xs ≤ i
   first_none [] i e = omega arith
-  first_none (x ∷ xs) zero e = absurd (some_is_not_none e)
+  first_none (x ∷ xs) zero e = absurd cc
   first_none (x ∷ xs) (suc i) e = let l = first_none xs i e in omega arith
-
-  pub first_past : (xs : List X) (i : ℕ) → length xs ≤ i → first (drop i xs) ≡ None
-  first_past [] zero l = refl
-  first_past [] (suc i) l = refl
-  first_past (x ∷ xs) zero l = absurd (not-suc-le-zero l)
-  first_past (x ∷ xs) (suc i) l = first_past xs i (le_of_suc-le-suc l)
 
   pub first_get_or : (xs : List X) (i : ℕ) (d : X) → i < length xs → first (drop i xs) ≡ Some (get_or xs i d)
   first_get_or [] i d l = absurd (not-suc-le-zero l)
@@ -29,8 +23,8 @@ module _ {X : Type 0} where
   first_get_or (x ∷ xs) (suc i) d l = first_get_or xs i d (le_of_suc-le-suc l)
 
   parts : (xs : List X) (i : ℕ) (x : X) → first (drop i xs) ≡ Some x → (i < length xs) × (drop i xs ≡ x ∷ drop (suc i) xs) × (take (suc i) xs ≡ take i xs ++ x ∷ [])
-  parts [] zero x e = let z : Some x ≡ None = cc in absurd (some_is_not_none z)
-  parts [] (suc i) x e = let z : Some x ≡ None = cc in absurd (some_is_not_none z)
+  parts [] zero x e = absurd cc
+  parts [] (suc i) x e = absurd cc
   parts (y ∷ xs) zero x e = let same : y ≡ x = cc in (omega arith, ap (λ z. z ∷ xs) same, ap (λ z. z ∷ []) same)
   parts (y ∷ xs) (suc i) x e = let p = parts xs i x e in let l = p.0 in (omega arith, p.1, ap (λ r. y ∷ r) p.2)
 
@@ -41,3 +35,7 @@ module _ {X : Type 0} where
   pub reached : (xs : List X) (i : ℕ) → i < length xs → (x : X) × Next xs i x
   reached [] i l = absurd (not-suc-le-zero l)
   reached (x ∷ xs) i l = (get_or (x ∷ xs) i x, next (x ∷ xs) i (get_or (x ∷ xs) i x) (first_get_or (x ∷ xs) i x l))
+
+  -- What is left behind n elements begins with x.
+  pub splits : (xs : List X) (n : ℕ) (x : X) (rest : List X) → x ∷ rest ≡ drop n xs → Next xs n x × (rest ≡ drop (n + 1) xs)
+  splits xs n x rest e = let at = next xs n x (ap first (sym e)) in (at, ap (λ ys. drop 1 ys) (e ∙ at.rest))

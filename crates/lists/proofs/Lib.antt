@@ -1,6 +1,7 @@
 pub mod Fronts
 pub mod Places
 pub mod Sorting
+pub mod Walking
 mod Listing
 mod Writing
 mod Cuts

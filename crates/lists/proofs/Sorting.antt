@@ -1,15 +1,17 @@
 -- The counts along the row of counters: they never fall, since they rise from bucket to bucket, and none is above the total.
-use Rattle.std.proofs.Common.{◌≡◌, ℕ, ◌<◌, ◌≤◌, ltb, List, [], ◌∷◌, ◌++◌, map, length, sym, refl, subst, append-nil, arith}
+use Rattle.std.proofs.Common.{◌≡◌, ℕ, ◌<◌, ◌≤◌, ltb, List, [], ◌∷◌, ◌++◌, length, sym, refl, subst, append-nil, arith}
 use mathlib.Core.Logic.{∥∥₁_elim}
-use native.Mathlib.Bridge.{le_prop}
-use Rattle.std.specs.List.{AllByRecursion as Each}
+use Rattle.std.specs.List.{AllByRecursion as Each, AllByRecursion-prop}
 use Rattle.std.proofs.lemmas.List.{length-reverse}
-use Rattle.std.proofs.ByRecursion.{All-weaker, All-append, All-drop}
+use Rattle.std.proofs.ByRecursion.{All-weaker, All-append, All-drop, All-map}
 use Rattle.std.proofs.lemmas.Bool.{cond_both}
+use mathlib.Core.HLevel.{Unit-prop, ×_prop}
+use Rattle.std.proofs.Props.{props}
+use Rattle.items.proofs.Turned.{all_reverse}
 use Rattle.rows.specs.declared.entry.Entry.{Entry}
 use Rattle.rows.specs.Promises.{Pairwise, Sorted}
 use Rattle.rows.specs.Questions.{by_position, first_count, outside}
-use Rattle.rows.proofs.Lists.{all_reverse}
+use Rattle.rows.proofs.Lists.{pairwise_map}
 use Rattle.rows.proofs.Positions.{HighestFirst, positions_fall}
 use Rattle.table.specs.declared.place.Place.{Place}
 use Rattle.table.specs.Placed.{Placed, entries}
@@ -25,27 +27,13 @@ use Rattle.lists.proofs.Places.{length_entries}
 -- ---- pairs
 
 module _ {X : Type 0} where
-  all_prop : (P : X → Type 0) → ((x : X) → IsProp (P x)) → (xs : List X) → IsProp (Each P xs)
-  all_prop P h [] a b = refl
-  all_prop P h (x ∷ xs) a b = λ i. (h x a.0 b.0 i, all_prop P h xs a.1 b.1 i)
-
   pairwise_prop : (R : X → X → Type 0) → ((x y : X) → IsProp (R x y)) → (xs : List X) → IsProp (Pairwise R xs)
-  pairwise_prop R h [] a b = refl
-  pairwise_prop R h (x ∷ xs) a b = λ i. (all_prop (R x) (h x) xs a.0 b.0 i, pairwise_prop R h xs a.1 b.1 i)
+  pairwise_prop R h [] = Unit-prop
+  pairwise_prop R h (x ∷ xs) = ×_prop (AllByRecursion-prop (R x) (h x) xs) (pairwise_prop R h xs)
 
   pairwise_append : (R : X → X → Type 0) (xs ys : List X) → Pairwise R xs → Pairwise R ys → Each (λ x. Each (R x) ys) xs → Pairwise R (xs ++ ys)
   pairwise_append R [] ys a b c = b
   pairwise_append R (x ∷ xs) ys a b c = (All-append (R x) xs ys a.0 c.0, pairwise_append R xs ys a.1 b c.1)
-
-all_map : {X Y : Type 0} (P : Y → Type 0) (f : X → Y) (xs : List X) → Each (λ x. P (f x)) xs → Each P (map f xs)
-all_map P f [] a = tt
-all_map P f (x ∷ xs) a = (a.0, all_map P f xs a.1)
-
-pairwise_map : {X Y : Type 0} (R : Y → Y → Type 0) (f : X → Y) (xs : List X) → Pairwise (λ a b. R (f a) (f b)) xs → Pairwise R (map f xs)
-pairwise_map R f [] a = tt
-pairwise_map R f (x ∷ xs) a = (all_map (R (f x)) f xs a.0, pairwise_map R f xs a.1)
-
--- ---- rows of groups
 
 module _ {T : Type 0} where
   abbrev Rising : List (Placed T) → Type 0
@@ -68,7 +56,7 @@ module _ {T : Type 0} where
 
   pub sorted : (s : Counters T) → Sorted (entries (placed s))
   sorted s =
-      ∥∥₁_elim s.sound (pairwise_prop _ (λ a b. le_prop) _) (λ st.
+      ∥∥₁_elim s.sound (hlevel (props, pairwise_prop)) (λ st.
       pairwise_map _ (λ e. e.entry) (placed s) (subst Rising (sym (row_sound _ _ _ _ st.gs st.fs st.sound)) (row_rises _ st.gs st.sound.rising)))
 
   -- By position they never rise.
@@ -79,8 +67,8 @@ module _ {T : Type 0} where
 
   counts_under : (s : Counters T) → Each (λ e. e.count ≤ s.total) (entries (placed s))
   counts_under s =
-      ∥∥₁_elim s.sound (all_prop _ (λ e. le_prop) _) (λ st.
-      all_map (λ e. e.count ≤ s.total) (λ e. e.entry) (placed s) (subst (Each (λ e. e.entry.count ≤ s.total)) (sym (row_sound _ _ _ _ st.gs st.fs st.sound)) (row_counts (λ v. v ≤ s.total) _ st.gs st.sound.under)))
+      ∥∥₁_elim s.sound (hlevel props) (λ st.
+      All-map (λ e. e.count ≤ s.total) (λ e. e.entry) (placed s) (subst (Each (λ e. e.entry.count ≤ s.total)) (sym (row_sound _ _ _ _ st.gs st.fs st.sound)) (row_counts (λ v. v ≤ s.total) _ st.gs st.sound.under)))
 
   pub count_under : (s : Counters T) (i : ℕ) (e : Entry T) → Next (by_position (entries (placed s))) i e → e.count ≤ s.total
   count_under s i e at =

@@ -1,11 +1,8 @@
-// The checks that stand before a list is written.
+// The check of a number of positions that is asked for.
 ghost use Rattle.std.specs.Prelude.{◌≡◌, None};
-ghost use Rattle.calls.specs.Refusals.{unless_refused, rank, support};
+ghost use Rattle.calls.specs.Refusals.{unless_refused, rank};
 
 use calls::refusal::Refusal;
-
-// The greatest denominator of a support.
-const FINEST: u32 = 1_000_000;
 
 // Whether k positions may be asked for, of m counters.
 pub fn check_rank(m: usize, k: usize) -> Result<(), Refusal>
@@ -13,16 +10,6 @@ pub fn check_rank(m: usize, k: usize) -> Result<(), Refusal>
 {
     if k == 0 || k > m {
         return Err(Refusal::Rank);
-    }
-    Ok(())
-}
-
-// Whether p/q is a support.
-pub fn check_support(p: u32, q: u32) -> Result<(), Refusal>
-    ensures { result ≡ unless_refused (support p q None) }
-{
-    if p == 0 || p > q || q > FINEST {
-        return Err(Refusal::Support);
     }
     Ok(())
 }

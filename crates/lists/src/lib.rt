@@ -6,5 +6,6 @@ pub mod checks;
 pub mod figures;
 pub mod frequent;
 mod lines;
+pub mod support;
 pub mod top;
 pub mod walk;

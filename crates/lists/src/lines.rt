@@ -1,5 +1,5 @@
 // The lines of a list, and their writing.
-ghost use Rattle.std.specs.Prelude.{◌≡◌, ◌<◌, ◌≤◌, length, take, slice_set};
+ghost use Rattle.std.specs.Prelude.{◌≡◌, ◌≤◌, length, take};
 ghost use Rattle.rows.specs.Questions.{by_position};
 ghost use Rattle.calls.specs.Refusals.{length_refusal};
 ghost use Rattle.calls.specs.Lists.{written};
@@ -18,28 +18,17 @@ use rows::entry::Entry;
 fn line_of<T: Copy + Drop>(entry: Entry<T>, threshold: Option<u32>) -> Line<T>
     ensures { result ≡ line_of threshold entry }
 {
-    let sure = match threshold {
-        Some(t) => lower(entry) >= t,
-        None => false,
-    };
     Line {
         item: entry.item,
         count: entry.count,
         error: entry.error,
-        sure,
+        sure: threshold.is_some_and(|t| lower(entry) >= t),
     }
 }
 
-fn put_line<T: Copy + Drop>(lines: &mut [Line<T>], i: usize, line: Line<T>)
-    requires { i < length lines.old }
-    ensures { lines.new ≡ slice_set lines.old i line }
-{
-    lines[i] = line;
-}
-
 // Writes the first n positions as lines.
-fn write_lines<'a, T: Copy + Drop>(
-    counters: &Counters<'a, T>,
+fn write_lines<T: Copy + Drop>(
+    counters: &Counters<'_, T>,
     n: usize,
     threshold: Option<u32>,
     lines: &mut [Line<T>],
@@ -47,17 +36,14 @@ fn write_lines<'a, T: Copy + Drop>(
     requires { (n ≤ length (row_of counters.now)) × (n ≤ length lines.old) }
     ensures { lines.new ≡ written (lines_of threshold (take n (by_position (row_of counters.now)))) lines.old }
 {
-    let mut walk = Walk::new(counters);
-    for i in 0..n {
-        if let Some(entry) = walk.next(counters) {
-            put_line(lines, i, line_of(entry, threshold));
-        }
+    for (i, entry) in Walk::new(counters).take(n).enumerate() {
+        lines[i] = line_of(entry, threshold);
     }
 }
 
 // Writes the first n positions as lines, if there are lines enough.
-pub fn write_list<'a, T: Copy + Drop>(
-    counters: &Counters<'a, T>,
+pub fn write_list<T: Copy + Drop>(
+    counters: &Counters<'_, T>,
     n: usize,
     threshold: Option<u32>,
     lines: &mut [Line<T>],

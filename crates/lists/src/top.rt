@@ -1,7 +1,8 @@
 // The top list.
-ghost use Rattle.std.specs.Prelude.{◌≡◌, ◌+◌, ◌<◌, min, ◌&&◌, length, take, nat_le};
-ghost use Rattle.rows.specs.Questions.{by_position, cut, top, guaranteed, ordered};
-ghost use Rattle.counters.specs.Meaning.{size};
+ghost use Rattle.std.specs.Prelude.{◌≡◌, length, take};
+ghost use Rattle.std.specs.Option.{unwrap_or};
+ghost use Rattle.rows.specs.Questions.{by_position, cut, top, ordered};
+ghost use Rattle.counters.specs.Meaning.{size, placed};
 ghost use Rattle.calls.specs.Lists.{top_lines, top_answer};
 ghost use Rattle.calls.specs.Calls.{TopEnds};
 ghost use Rattle.lists.specs.Row.{row_of};
@@ -13,122 +14,57 @@ use crate::walk::Walk;
 use calls::answers::{Line, TopList};
 use calls::refusal::Refusal;
 use counters::counters::Counters;
+use std::iter::once;
 
-// The positions that a walk has passed: how many, and the least of their lower figures.
-#[derive(Clone, Copy)]
-struct Front {
-    positions: usize,
-    least: u32,
-}
+// The counters and k stay two parameters: each function is called once, so a type for both would add more than it takes away.
 
-impl Front {
-    // Whether the list may end here: k are listed, and no lower figure is below the figure after them.
-    fn ends(self, k: usize, figure: u32) -> bool
-        ensures { result ≡ nat_le k self.positions && nat_le figure self.least }
-    {
-        self.positions >= k && self.least >= figure
-    }
-
-    fn with(self, lower: u32) -> Front
-        requires { self.positions < 512 }
-        ensures positions { result.positions ≡ self.positions + 1 }
-        ensures least { result.least ≡ min self.least lower }
-    {
-        Front {
-            positions: self.positions + 1,
-            least: self.least.min(lower),
-        }
-    }
-}
-
-// Where the top list of k ends, if it can be guaranteed.
-fn cut<'a, T: Copy + Drop>(counters: &Counters<'a, T>, k: usize) -> Option<usize>
-    ensures { result ≡ cut k (size counters.now) (row_of counters.now) }
+// Where the top list of k ends, if it can be guaranteed. It has the lines up to there, or all.
+fn cut<T: Copy + Drop>(counters: &Counters<'_, T>, k: usize) -> Option<usize>
+    ensures is { result ≡ cut k (size counters.now) (row_of counters.now) }
+    ensures lines { unwrap_or result (length (placed counters.now)) ≡ length (top_lines k (size counters.now) (row_of counters.now)) }
 {
     // No figure is above the total.
-    let mut front = Front {
-        positions: 0,
-        least: counters.total(),
-    };
-    let mut walk = Walk::new(counters);
-    while let Some(entry) = walk.next(counters) {
-        if front.ends(k, entry.count) {
-            return Some(front.positions);
+    let mut least = counters.total();
+    for (n, entry) in Walk::new(counters).enumerate() {
+        if n >= k && least >= entry.count {
+            return Some(n);
         }
-        front = front.with(lower(entry));
+        least = least.min(lower(entry));
     }
-    if front.least >= outside(counters) {
-        Some(front.positions)
-    } else {
-        None
-    }
+    (least >= outside(counters)).then_some(counters.used())
 }
 
 // Whether at each of the first k positions the lower figure is at least the figure after it.
-fn falls<'a, T: Copy + Drop>(counters: &Counters<'a, T>, k: usize) -> bool
+fn falls<T: Copy + Drop>(counters: &Counters<'_, T>, k: usize) -> bool
     ensures { result ≡ ordered k (size counters.now) (row_of counters.now) }
 {
-    let outside = outside(counters);
-    // Before position 1, any figure will do: none is above the total.
-    let mut last = counters.total();
-    let mut walk = Walk::new(counters);
-    for _ in 0..k {
-        match walk.next(counters) {
-            Some(entry) => {
-                if last < entry.count {
-                    return false;
-                }
-                last = lower(entry);
-            }
-            None => return last >= outside,
-        }
-    }
-    match walk.next(counters) {
-        Some(entry) => last >= entry.count,
-        None => last >= outside,
-    }
-}
-
-// How many lines the top list of k has, and whether it is guaranteed.
-#[derive(Clone, Copy)]
-struct Extent {
-    lines: usize,
-    guaranteed: bool,
-}
-
-fn extent_of<'a, T: Copy + Drop>(counters: &Counters<'a, T>, k: usize) -> Extent
-    ensures list { top k (size counters.now) (row_of counters.now) ≡ take result.lines (by_position (row_of counters.now)) }
-    ensures lines { result.lines ≡ length (top_lines k (size counters.now) (row_of counters.now)) }
-    ensures guaranteed { result.guaranteed ≡ guaranteed k (size counters.now) (row_of counters.now) }
-{
-    match cut(counters, k) {
-        Some(lines) => Extent {
-            lines,
-            guaranteed: true,
-        },
-        None => Extent {
-            lines: counters.used(),
-            guaranteed: false,
-        },
-    }
+    // The figure after a position: the count at the next one, or the outside figure after the last.
+    let figures = Walk::new(counters)
+        .skip(1)
+        .map(|entry| entry.count)
+        .chain(once(outside(counters)));
+    Walk::new(counters)
+        .take(k)
+        .zip(figures)
+        .all(|(entry, figure)| lower(entry) >= figure)
 }
 
 // What the top list of k answers.
-fn answer<'a, T: Copy + Drop>(counters: &Counters<'a, T>, k: usize) -> TopList
+fn answer<T: Copy + Drop>(counters: &Counters<'_, T>, k: usize) -> TopList
     ensures is { result ≡ top_answer k (size counters.now) (row_of counters.now) }
     ensures list { top k (size counters.now) (row_of counters.now) ≡ take result.lines (by_position (row_of counters.now)) }
 {
-    let extent = extent_of(counters, k);
+    let cut = cut(counters, k);
     TopList {
-        lines: extent.lines,
-        guaranteed: extent.guaranteed,
+        lines: cut.unwrap_or(counters.used()),
+        guaranteed: cut.is_some(),
         ordered: falls(counters, k),
     }
 }
 
 /// Writes the top list of k into the lines, from the front.
-pub fn top<'a, T: Copy + Drop>(
-    counters: &Counters<'a, T>,
+pub fn top<T: Copy + Drop>(
+    counters: &Counters<'_, T>,
     k: usize,
     lines: &mut [Line<T>],
 ) -> Result<TopList, Refusal>

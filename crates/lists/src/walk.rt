@@ -1,39 +1,43 @@
 // A walk along the row from the high end, by the links.
-ghost use Rattle.std.specs.Prelude.{◌≡◌, ℕ, ◌+◌};
-ghost use Rattle.counters.specs.Meaning.{placed};
+ghost use Rattle.std.specs.Prelude.{◌≡◌, ◌≤◌, length};
+ghost use Rattle.std.specs.Iterator.{YieldsFirst, item_count};
+ghost use Rattle.rows.specs.Questions.{by_position};
 ghost use Rattle.lists.specs.Row.{row_of};
-ghost use Rattle.lists.specs.Walks.{Passed, entry_behind};
+ghost use Rattle.lists.specs.Walks.{ahead};
 
 use counters::counters::Counters;
 use rows::entry::Entry;
 
-// Where a walk stands: the place of the next entry, or none at the end of the row.
-#[derive(Clone, Copy)]
-pub struct Walk {
+/// The entries by position. It keeps the place of the next one, or none at the end of the row.
+#[derive(Drop)]
+pub struct Walk<'c, 'a, T> {
+    counters: &'c Counters<'a, T>,
     place: Option<usize>,
 }
 
-impl Walk {
-    // A walk that has passed no position yet.
-    pub fn new<'a, T: Copy + Drop>(counters: &Counters<'a, T>) -> Walk
-        ensures { Passed result.place (placed counters.now) 0 }
+impl<'c, 'a, T: Copy + Drop> Walk<'c, 'a, T> {
+    /// A walk that has passed no position yet.
+    pub fn new(counters: &'c Counters<'a, T>) -> Walk<'c, 'a, T>
+        ensures all { ahead result ≡ by_position (row_of counters.now) }
+        ensures few { length (ahead result) ≤ 512 }
     {
         Walk {
+            counters,
             place: counters.last(),
         }
     }
+}
 
-    // The entry at the next position, which is then passed.
-    pub fn next<'a, T: Copy + Drop>(&mut self, counters: &Counters<'a, T>) -> Option<Entry<T>>
-        ensures entry { (i : ℕ) → Passed self.old.place (placed counters.now) i → result ≡ entry_behind i (row_of counters.now) }
-        ensures passed { (i : ℕ) → Passed self.old.place (placed counters.now) i → Passed self.new.place (placed counters.now) (i + 1) }
-    {
-        match self.place {
-            None => None,
-            Some(place) => {
-                self.place = counters.before(place);
-                counters.entry(place)
-            }
-        }
+impl<'c, 'a, T: Copy + Drop> Iterator for Walk<'c, 'a, T> {
+    type Item = Entry<T>;
+
+    ghost next_gives = { YieldsFirst ahead };
+
+    ghost remaining = { item_count ahead };
+
+    fn next(&mut self) -> Option<Entry<T>> {
+        let place = self.place?;
+        self.place = self.counters.before(place);
+        self.counters.entry(place)
     }
 }

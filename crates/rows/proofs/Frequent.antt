@@ -2,14 +2,14 @@
 use Rattle.std.proofs.Common.{◌≡◌, ℕ, ◌*◌, ◌<◌, ◌≤◌, Bool, true, false, leb, List, [], ◌∷◌, length, take, drop, Some, None, filter, Option, sym, refl, ap, subst, lt_of_mul-lt-mul_right, arith}
 use Rattle.std.specs.List.{AllByRecursion as Each}
 use Rattle.std.proofs.ByRecursion.{All-weaker, all_kept_by, kept_by_passes}
-use Rattle.std.proofs.lemmas.Bool.{cond_both, leb-true, leb-false, le-leb, lt-leb, ltb-true, lt-ltb, both_ways}
+use Rattle.std.proofs.lemmas.Bool.{cond_both, leb-true, leb-false, le-leb, lt-leb, ltb-true, lt-ltb, both_ways, true_from_ne_false}
 use Rattle.rows.specs.declared.entry.Entry.{Entry}
 use Rattle.rows.specs.Row.{entry_of, without, hits_of}
 use Rattle.rows.specs.Questions.{by_position, outside, lower, listed, frequent, sure, complete}
 use Rattle.rows.specs.Promises.{TrueFrequentList}
 use Rattle.rows.proofs.Lists.{all_from_reverse, all_from_kept}
 use Rattle.rows.proofs.Put.{all_out}
-use Rattle.rows.proofs.Sameness.{true_since, Absent, Found, found, absent_from_listed}
+use Rattle.rows.proofs.Sameness.{Absent, Found, found, absent_from_listed}
 use Rattle.rows.proofs.Outside.{outside_share}
 use Rattle.rows.proofs.Positions.{HighestFirst, positions_fall, covered_positions}
 use Rattle.rows.proofs.Invariant.{Invariant, Covered}
@@ -20,7 +20,7 @@ module _ {Item : Type 0} (t : ℕ) where
   abbrev reaches : Entry Item → Bool
   reaches e = leb t e.count
 
-  none_reach : (es : List (Entry Item)) → Each (λ e. e.count < t) es → filter reaches es ≡ []
+  pub none_reach : (es : List (Entry Item)) → Each (λ e. e.count < t) es → filter reaches es ≡ []
   none_reach [] a = refl
   none_reach (e ∷ es) a = rw (lt-leb t e.count a.0) (none_reach es a.1)
 
@@ -62,7 +62,7 @@ module _ {Item : Type 0} {same : Item → Item → Bool} {m n : ℕ} {h : Item �
 
   omits_none : complete t m row ≡ true → (x : Item) → t ≤ h x → listed same x (frequent t row) ≡ true
   omits_none c x l =
-      true_since (listed same x (frequent t row)) (λ fails.
+      true_from_ne_false (listed same x (frequent t row)) (λ fails.
       absurd (omega (arith, unlisted_found x (ltb-true (outside m row) t c) (absent_from_listed same x (frequent t row) fails) (entry_of same x row) (found same x row))))
 
   complete_when : n < t * m → complete t m row ≡ true

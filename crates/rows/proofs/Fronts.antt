@@ -50,7 +50,7 @@ module _ {X : Type 0} {new : X} where
   put_onto [] p = p
   put_onto (f ∷ front) p = put_onto front (there p)
 
-  put_reverse_onto : {rest row : List X} → Put new rest row → (behind : List X) → Put new (reverse_aux rest behind) (reverse_aux row behind)
+  pub put_reverse_onto : {rest row : List X} → Put new rest row → (behind : List X) → Put new (reverse_aux rest behind) (reverse_aux row behind)
   put_reverse_onto (here {rest}) behind = put_onto rest here
   put_reverse_onto (there {f} p) behind = put_reverse_onto p (f ∷ behind)
 

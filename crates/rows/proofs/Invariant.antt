@@ -3,6 +3,7 @@ use Rattle.std.proofs.Common.{◌≡◌, ℕ, suc, ◌+◌, ◌<◌, ◌≤◌, 
 use Rattle.std.specs.List.{AllByRecursion as Each}
 use Rattle.std.proofs.ByRecursion.{All-weaker}
 use Rattle.std.proofs.lemmas.Bool.{cases_Bool}
+use Rattle.items.proofs.Alike.{flipped, differs, alike_second}
 use Rattle.items.specs.Sameness.{Equivalence}
 use Rattle.rows.specs.declared.entry.Entry.{Entry}
 use Rattle.rows.specs.Row.{entry, raised, insert, hit}
@@ -10,7 +11,7 @@ use Rattle.rows.specs.Questions.{outside}
 use Rattle.rows.specs.Promises.{Sorted, Apart, sum_of_counts}
 use Rattle.rows.proofs.Lists.{all_both}
 use Rattle.rows.proofs.Put.{Put, here, put_length, all_out, all_in, pairwise_out, put_sum, put_insert, sorted_insert}
-use Rattle.rows.proofs.Sameness.{Absent, flipped, differs, same_alike, absent_rest, apart_out, apart_in}
+use Rattle.rows.proofs.Sameness.{Absent, absent_rest, apart_out, apart_in}
 use Rattle.rows.proofs.Outside.{outside_with_room, outside_full, outside_rises}
 use Rattle.rows.proofs.Hits.{HitCase, moves, joins, takes_over, hit_case}
 
@@ -50,7 +51,7 @@ module _ {Item : Type 0} (same : Item → Item → Bool) (laws : Equivalence sam
   plus_alike : (h : Item → ℕ) (x : Item) → ((y z : Item) → same y z ≡ true → h y ≡ h z) → (y z : Item) → same y z ≡ true → plus same amount h x y ≡ plus same amount h x z
   plus_alike h x a y z t =
       let p : h y ≡ h z = a y z t in
-      let q : amount_if amount (same x y) ≡ amount_if amount (same x z) = ap (amount_if amount) (same_alike same laws x y z t) in
+      let q : amount_if amount (same x y) ≡ amount_if amount (same x z) = ap (amount_if amount) (alike_second same laws x y z t) in
       omega arith
 
   -- Entries of other items stay covered.

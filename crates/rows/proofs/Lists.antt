@@ -1,10 +1,11 @@
 -- What holds of all elements of a list, or of all pairs: joined, turned round, cut and filtered.
-use Rattle.std.proofs.Common.{◌≡◌, ℕ, zero, suc, Bool, true, false, cond, List, [], ◌∷◌, reverse, length, take, drop, filter, refl, ap, subst}
+use Rattle.std.proofs.Common.{◌≡◌, ℕ, zero, suc, Bool, true, false, cond, List, [], ◌∷◌, reverse, take, drop, filter, refl, subst, map}
 use mathlib.Core.List.{reverse_aux}
 use Rattle.std.specs.List.{AllByRecursion as Each}
 use Rattle.std.proofs.lemmas.List.{reverse-reverse}
-use Rattle.std.proofs.ByRecursion.{All-weaker, All-take}
+use Rattle.std.proofs.ByRecursion.{All-weaker, All-take, All-map}
 use Rattle.std.proofs.lemmas.Bool.{and_parts, and_from, both_ways}
+use Rattle.items.proofs.Turned.{all_reverse}
 use Rattle.rows.specs.Questions.{every}
 use Rattle.rows.specs.Promises.{Pairwise}
 
@@ -14,13 +15,6 @@ module _ {X : Type 0} where
   pub all_both : (P Q R : X → Type 0) → ((x : X) → P x → Q x → R x) → (xs : List X) → Each P xs → Each Q xs → Each R xs
   all_both P Q R f [] p q = tt
   all_both P Q R f (x ∷ xs) p q = (f x p.0 q.0, all_both P Q R f xs p.1 q.1)
-
-  all_reverse_onto : (P : X → Type 0) (xs ys : List X) → Each P xs → Each P ys → Each P (reverse_aux xs ys)
-  all_reverse_onto P [] ys a b = b
-  all_reverse_onto P (x ∷ xs) ys a b = all_reverse_onto P xs (x ∷ ys) a.1 (a.0, b)
-
-  pub all_reverse : (P : X → Type 0) (xs : List X) → Each P xs → Each P (reverse xs)
-  all_reverse P xs a = all_reverse_onto P xs [] a tt
 
   pub all_from_reverse : (P : X → Type 0) (xs : List X) → Each P (reverse xs) → Each P xs
   all_from_reverse P xs a = subst (Each P) (reverse-reverse xs) (all_reverse P (reverse xs) a)
@@ -72,9 +66,6 @@ module _ {X : Type 0} where
   pairwise_take R (suc n) [] a = tt
   pairwise_take R (suc n) (x ∷ xs) a = (All-take (R x) n xs a.0, pairwise_take R n xs a.1)
 
-  -- ---- fronts
-
-  pub take_own_length : (n : ℕ) (xs : List X) → take n xs ≡ take (length (take n xs)) xs
-  take_own_length zero xs = refl
-  take_own_length (suc n) [] = refl
-  take_own_length (suc n) (x ∷ xs) = ap (λ r. x ∷ r) (take_own_length n xs)
+pub pairwise_map : {X Y : Type 0} (R : Y → Y → Type 0) (f : X → Y) (xs : List X) → Pairwise (λ a b. R (f a) (f b)) xs → Pairwise R (map f xs)
+pairwise_map R f [] a = tt
+pairwise_map R f (x ∷ xs) a = (All-map (R (f x)) f xs a.0, pairwise_map R f xs a.1)

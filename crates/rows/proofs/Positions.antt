@@ -3,11 +3,12 @@ use Rattle.std.proofs.Common.{◌≡◌, ℕ, zero, suc, ◌<◌, ◌≤◌, Boo
 use Rattle.std.specs.List.{AllByRecursion as Each}
 use Rattle.std.proofs.lemmas.List.{take-append-drop}
 use Rattle.std.proofs.ByRecursion.{All-drop, All-append}
+use Rattle.items.proofs.Turned.{all_reverse}
 use Rattle.rows.specs.declared.entry.Entry.{Entry}
 use Rattle.rows.specs.Row.{entry_of, without}
 use Rattle.rows.specs.Questions.{by_position, first_count, outside, lower, figure_after}
 use Rattle.rows.specs.Promises.{Pairwise, Sorted, lower_of_first}
-use Rattle.rows.proofs.Lists.{all_reverse, all_from_reverse, pairwise_reverse, pairwise_drop}
+use Rattle.rows.proofs.Lists.{all_from_reverse, pairwise_reverse, pairwise_drop}
 use Rattle.rows.proofs.Put.{all_out}
 use Rattle.rows.proofs.Sameness.{Absent, Found, found}
 use Rattle.rows.proofs.Outside.{outside_lowest}

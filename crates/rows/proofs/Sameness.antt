@@ -1,8 +1,9 @@
--- What an equivalence gives, and what looking an item up in a row tells.
-use Rattle.std.proofs.Common.{◌≡◌, Bool, true, false, cond, List, [], ◌∷◌, reverse, is_some, Some, None, Option, sym, refl, ◌∙◌}
+-- What looking an item up in a row tells, and what an equivalence gives of rows.
+use Rattle.std.proofs.Common.{◌≡◌, Bool, true, false, cond, List, [], ◌∷◌, reverse, is_some, Some, None, Option, sym, refl, ◌∙◌, ◌||◌}
 use Rattle.std.specs.List.{AllByRecursion as Each}
 use Rattle.std.proofs.ByRecursion.{All-weaker}
-use Rattle.std.proofs.lemmas.Bool.{both_ways, true≢false}
+use Rattle.std.proofs.lemmas.Bool.{both_ways, true≢false, true_from_ne_false}
+use Rattle.items.proofs.Alike.{flipped, differs, alike_second}
 use Rattle.items.specs.Sameness.{Equivalence}
 use Rattle.rows.specs.declared.entry.Entry.{Entry}
 use Rattle.rows.specs.Row.{entry_of, without}
@@ -10,20 +11,6 @@ use Rattle.rows.specs.Questions.{listed}
 use Rattle.rows.specs.Promises.{Apart}
 use Rattle.rows.proofs.Lists.{pairwise_weaker, pairwise_reverse}
 use Rattle.rows.proofs.Put.{Put, here, there, all_out, others_out, pairwise_in, pairwise_out}
-
--- A test that cannot pass fails, and one that cannot fail passes.
-pub false_since : (b : Bool) → (b ≡ true → ⊥) → b ≡ false
-false_since true f = absurd (f refl)
-false_since false f = refl
-
-pub true_since : (b : Bool) → (b ≡ false → ⊥) → b ≡ true
-true_since true f = refl
-true_since false f = absurd (f refl)
-
-equal_tests : (b c : Bool) → (b ≡ true → c ≡ true) → (c ≡ true → b ≡ true) → b ≡ c
-equal_tests true c f g = sym (f refl)
-equal_tests false true f g = g refl
-equal_tests false false f g = refl
 
 -- No entry holds an item the same as x.
 abbrev pub Absent : {Item : Type 0} → (Item → Item → Bool) → Item → List (Entry Item) → Type 0
@@ -33,6 +20,10 @@ Absent same x row = Each (λ e. same e.item x ≡ false) row
 abbrev pub Found : {Item : Type 0} → (Item → Item → Bool) → Item → Option (Entry Item) → List (Entry Item) → List (Entry Item) → Type 0
 Found same x (Some e) rest row = (same e.item x ≡ true) × Put e rest row
 Found same x None rest row = Absent same x row
+
+pub some_first : {X : Type 0} (b : Bool) (x : X) (o : Option X) → is_some (cond b (Some x) o) ≡ b || is_some o
+some_first true x o = refl
+some_first false x o = refl
 
 module _ {Item : Type 0} (same : Item → Item → Bool) where
   found_behind : (x : Item) (f : Entry Item) (o : Option (Entry Item)) (rest row : List (Entry Item)) → same f.item x ≡ false →
@@ -67,46 +58,32 @@ module _ {Item : Type 0} (same : Item → Item → Bool) where
   apart_out p a = pairwise_out (λ f g. same f.item g.item ≡ false) p a
 
   module _ (laws : Equivalence same) where
-    pub flipped : (x y : Item) → same x y ≡ false → same y x ≡ false
-    flipped x y h = false_since (same y x) (λ t. both_ways (same x y) h (laws.symmetric y x t))
-
-    -- a is the same as x and not as y: then x and y are not the same.
-    pub differs : (a x y : Item) → same a x ≡ true → same a y ≡ false → same x y ≡ false
-    differs a x y t h = false_since (same x y) (λ u. both_ways (same a y) h (laws.transitive a x y t u))
-
-    -- Two items that are the same as a third.
-    pub same_by_third : (a x y : Item) → same a x ≡ true → same a y ≡ true → same x y ≡ true
-    same_by_third a x y t u = laws.transitive x a y (laws.symmetric a x t) u
-
-    pub same_alike : (x y z : Item) → same y z ≡ true → same x y ≡ same x z
-    same_alike x y z t = equal_tests (same x y) (same x z) (λ u. laws.transitive x y z u t) (λ u. laws.transitive x z y u (laws.symmetric y z t))
-
     pub absent_alike : (x y : Item) (es : List (Entry Item)) → same x y ≡ true → Absent same x es → Absent same y es
-    absent_alike x y es t a = All-weaker (λ e. same e.item x ≡ false) (λ e. same e.item y ≡ false) (λ e u. sym (same_alike e.item x y t) ∙ u) es a
+    absent_alike x y es t a = All-weaker (λ e. same e.item x ≡ false) (λ e. same e.item y ≡ false) (λ e u. sym (alike_second same laws e.item x y t) ∙ u) es a
 
     pub listed_alike : (x y : Item) (es : List (Entry Item)) → same x y ≡ true → listed same x es ≡ true → listed same y es ≡ true
     listed_alike x y es t l =
-        true_since (listed same y es) (λ u. both_ways (listed same x es)
+        true_from_ne_false (listed same y es) (λ u. both_ways (listed same x es)
         (listed_from_absent x es (absent_alike y x es (laws.symmetric x y t) (absent_from_listed y es u))) l)
 
     pub listed_put : {e : Entry Item} {rest es : List (Entry Item)} → Put e rest es → listed same e.item es ≡ true
     listed_put {e} {rest} {es} p =
-        true_since (listed same e.item es) (λ u. both_ways (same e.item e.item)
+        true_from_ne_false (listed same e.item es) (λ u. both_ways (same e.item e.item)
         (all_out (λ f. same f.item e.item ≡ false) p (absent_from_listed e.item es u)).0 (laws.reflexive e.item))
 
     -- In a row of items that are not the same, the rest has no entry of the item that was taken out;
     pub absent_rest : {e : Entry Item} {rest row : List (Entry Item)} (x : Item) → same e.item x ≡ true → Put e rest row → Apart same row → Absent same x rest
     absent_rest {e} {rest} x t p a =
-        All-weaker (λ f. same e.item f.item ≡ false) (λ f. same f.item x ≡ false) (λ f u. flipped x f.item (differs e.item x f.item t u)) rest
-        (others_out (λ f g. same f.item g.item ≡ false) (λ f g. flipped f.item g.item) p a)
+        All-weaker (λ f. same e.item f.item ≡ false) (λ f. same f.item x ≡ false) (λ f u. flipped same laws x f.item (differs same laws e.item x f.item t u)) rest
+        (others_out (λ f g. same f.item g.item ≡ false) (λ f g. flipped same laws f.item g.item) p a)
 
     -- and an entry of an item that the rest has no entry of may be put in anywhere.
     pub apart_in : {e : Entry Item} {rest row : List (Entry Item)} → Put e rest row → Absent same e.item rest → Apart same rest → Apart same row
     apart_in {e} {rest} p away a =
-        pairwise_in (λ f g. same f.item g.item ≡ false) (λ f g. flipped f.item g.item) p
-        (All-weaker (λ f. same f.item e.item ≡ false) (λ f. same e.item f.item ≡ false) (λ f u. flipped f.item e.item u) rest away) a
+        pairwise_in (λ f g. same f.item g.item ≡ false) (λ f g. flipped same laws f.item g.item) p
+        (All-weaker (λ f. same f.item e.item ≡ false) (λ f. same e.item f.item ≡ false) (λ f u. flipped same laws f.item e.item u) rest away) a
 
     pub apart_reverse : (row : List (Entry Item)) → Apart same row → Apart same (reverse row)
     apart_reverse row a =
-        pairwise_weaker (λ f g. same g.item f.item ≡ false) (λ f g. same f.item g.item ≡ false) (λ f g. flipped g.item f.item) (reverse row)
+        pairwise_weaker (λ f g. same g.item f.item ≡ false) (λ f g. same f.item g.item ≡ false) (λ f g. flipped same laws g.item f.item) (reverse row)
         (pairwise_reverse (λ f g. same f.item g.item ≡ false) row a)

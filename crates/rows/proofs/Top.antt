@@ -1,14 +1,14 @@
 -- Top lists are true.
 use Rattle.std.proofs.Common.{◌≡◌, ℕ, zero, suc, ◌+◌, ◌-◌, ◌<◌, ◌≤◌, min, Bool, true, false, leb, List, [], ◌∷◌, length, take, drop, is_some, Some, None, Option, sym, refl, ap, ◌∙◌, subst, inl, inr, arith}
 use Rattle.std.specs.List.{AllByRecursion as Each}
-use Rattle.std.proofs.lemmas.List.{length-reverse, length-take-le, take_all}
+use Rattle.std.proofs.lemmas.List.{length-reverse, length-take-le, take_all, length-take, take_min}
 use Rattle.std.proofs.ByRecursion.{All-weaker, All-take}
 use Rattle.std.proofs.lemmas.Bool.{leb-true, le-leb, both_ways, and_parts, and_from, cond_both, cases_lt, true≢false, false≢true}
 use Rattle.rows.specs.declared.entry.Entry.{Entry}
 use Rattle.rows.specs.Row.{entry_of, without, hits_of}
 use Rattle.rows.specs.Questions.{by_position, first_count, outside, lower, figure_after, smallest, or_else, clear, cut, top, falling, ordered, listed}
 use Rattle.rows.specs.Promises.{Pairwise, SmallestFrom, ClearOfRest, lower_of_first, lower_at, TrueTopList}
-use Rattle.rows.proofs.Lists.{all_both, all_from_every, every_from_all, take_own_length}
+use Rattle.rows.proofs.Lists.{all_both, all_from_every, every_from_all}
 use Rattle.rows.proofs.Put.{all_out}
 use Rattle.rows.proofs.Sameness.{Found, found, absent_from_listed}
 use Rattle.rows.proofs.Positions.{HighestFirst, positions_fall, first_highest, lower_by_position, lower_from_positions, covered_positions, behind}
@@ -17,7 +17,7 @@ use Rattle.rows.proofs.Invariant.{Invariant, Covered}
 -- ---- the search for the smallest number that passes
 
 -- What the search from low to high tells.
-abbrev Searched : (ℕ → Bool) → ℕ → ℕ → Option ℕ → Type 0
+abbrev pub Searched : (ℕ → Bool) → ℕ → ℕ → Option ℕ → Type 0
 Searched test low high (Some j) = SmallestFrom low high (λ i. test i ≡ true) j
 Searched test low high None = (i : ℕ) → low ≤ i → i ≤ high → test i ≡ true → ⊥
 
@@ -89,7 +89,7 @@ module _ {Item : Type 0} (m : ℕ) (row : List (Entry Item)) where
   all_without_cut (Some j) fails = absurd (true≢false fails)
   all_without_cut None fails = take_all (length row) (by_position row) (omega (arith, positions_length))
 
-  cut_searched : (k : ℕ) → Searched (clear m row) (min k (length row)) (length row) (cut k m row)
+  pub cut_searched : (k : ℕ) → Searched (clear m row) (min k (length row)) (length row) (cut k m row)
   cut_searched k = searched (clear m row) (min k (length row)) (length row - min k (length row)) (length row) (omega arith)
 
 -- ---- guaranteed lists
@@ -161,7 +161,9 @@ pub true_top_list : {Item : Type 0} {same : Item → Item → Bool} {m : ℕ} {h
     Invariant same m (hits_of same hits) (length hits) row → (k : ℕ) →
     TrueTopList same m k hits row (top k m row)
 true_top_list {same} {m} {hits} {row} inv k = record {
-  first_positions = take_own_length (or_else (length row) (cut k m row)) (by_position row);
+  first_positions =
+      let front : ℕ = or_else (length row) (cut k m row) in
+      sym (ap (λ n. take n (by_position row)) (length-take front (by_position row)) ∙ take_min front (by_position row));
   guaranteed_means = ends_smallest m row (min k (length row)) (cut k m row) (cut_searched m row k);
   guaranteed_given = cut_exists m row (min k (length row)) (cut k m row) (cut_searched m row k);
   otherwise_all = all_without_cut m row (cut k m row);

@@ -1,7 +1,8 @@
 -- Watched hits are true.
-use Rattle.std.proofs.Common.{◌≡◌, ℕ, Bool, true, false, cond, List, [], ◌∷◌, take, is_some, Some, None, Option, sym, refl, ap, ◌∙◌, subst, arith}
+use Rattle.std.proofs.Common.{◌≡◌, ℕ, Bool, true, false, cond, List, [], ◌∷◌, take, is_some, Some, None, Option, sym, refl, ap, ◌∙◌, subst}
 use Rattle.std.specs.List.{AllByRecursion as Each}
-use Rattle.std.proofs.lemmas.Bool.{both_ways, false≢true}
+use Rattle.std.proofs.lemmas.Bool.{both_ways, false≢true, false_from_ne_true, true_from_ne_false}
+use Rattle.items.proofs.Alike.{same_by_third}
 use Rattle.items.specs.Sameness.{Equivalence}
 use Rattle.rows.specs.declared.entry.Entry.{Entry}
 use Rattle.rows.specs.Row.{entry_of, without}
@@ -9,7 +10,7 @@ use Rattle.rows.specs.Questions.{by_position, listed, first_new, entered, left}
 use Rattle.rows.specs.Promises.{Apart, form_at, OnlyNew, TellsNew, TrueWatch}
 use Rattle.rows.proofs.Lists.{pairwise_take}
 use Rattle.rows.proofs.Put.{all_out, all_in}
-use Rattle.rows.proofs.Sameness.{false_since, true_since, Absent, Found, found, absent_from_listed, listed_from_absent, same_by_third, listed_alike, listed_put, absent_rest, apart_reverse}
+use Rattle.rows.proofs.Sameness.{Absent, Found, found, absent_from_listed, listed_from_absent, listed_alike, listed_put, absent_rest, apart_reverse}
 use Rattle.rows.proofs.Fronts.{Change, unchanged, swapped, grown, ChangedBy}
 
 module _ {Item : Type 0} (same : Item → Item → Bool) (laws : Equivalence same) where
@@ -22,7 +23,7 @@ module _ {Item : Type 0} (same : Item → Item → Bool) (laws : Equivalence sam
 
   told_behind : (e : Entry Item) (es others : List (Entry Item)) (o : Option Item) → listed same e.item others ≡ true → Told es others o → Told (e ∷ es) others o
   told_behind e es others (Some x) t k =
-      let other : same e.item x ≡ false = false_since (same e.item x) (λ u. both_ways (listed same x others) k.1 (listed_alike same laws e.item x others u t)) in
+      let other : same e.item x ≡ false = false_from_ne_true (same e.item x) (λ u. both_ways (listed same x others) k.1 (listed_alike same laws e.item x others u t)) in
       (ap (λ b. form_at (cond b (Some e) (entry_of same x es))) other ∙ k.0, k.1)
   told_behind e es others None t k = (t, k)
 
@@ -37,7 +38,7 @@ module _ {Item : Type 0} (same : Item → Item → Bool) (laws : Equivalence sam
 
   held_is_listed : (x : Item) (o : Option (Entry Item)) → form_at o ≡ Some x → is_some o ≡ true
   held_is_listed x (Some e) h = refl
-  held_is_listed x None h = absurd (let z : ◌≡◌ {A = ℕ} 0 1 = cc in omega arith)
+  held_is_listed x None h = absurd cc
 
   -- At most one item, up to sameness, is in one list and not in the other.
   abbrev OneNew : List (Entry Item) → List (Entry Item) → Type 0
@@ -65,7 +66,7 @@ module _ {Item : Type 0} (same : Item → Item → Bool) (laws : Equivalence sam
   only_by : (e : Entry Item) (es others : List (Entry Item)) → ((y : Item) → same e.item y ≡ false → Absent same y others → Absent same y es) →
       (y : Item) → listed same y es ≡ true → listed same y others ≡ false → same e.item y ≡ true
   only_by e es others away y inside out =
-      true_since (same e.item y) (λ t. both_ways (listed same y es) (listed_from_absent same y es (away y t (absent_from_listed same y others out))) inside)
+      true_from_ne_false (same e.item y) (λ t. both_ways (listed same y es) (listed_from_absent same y es (away y t (absent_from_listed same y others out))) inside)
 
   one_by : (e : Entry Item) (es others : List (Entry Item)) → ((y : Item) → same e.item y ≡ false → Absent same y others → Absent same y es) → OneNew es others
   one_by e es others away x y xin xout yin yout = same_by_third same laws e.item x y (only_by e es others away x xin xout) (only_by e es others away y yin yout)
@@ -92,7 +93,7 @@ module _ {Item : Type 0} (same : Item → Item → Bool) (laws : Equivalence sam
         let went : same old.item z ≡ true =
         only_by old before after (λ y t a. all_in (λ e. same e.item y ≡ false) p t (all_out (λ e. same e.item y ≡ false) q a).1) z inside out in
         let other : same old.item new.item ≡ false =
-        false_since (same old.item new.item) (λ t. both_ways (same new.item z) away.0 (same_by_third same laws old.item new.item z t went)) in (
+        false_from_ne_true (same old.item new.item) (λ t. both_ways (same new.item z) away.0 (same_by_third same laws old.item new.item z t went)) in (
           listed_put same laws q,
           listed_from_absent same new.item before
               (all_in (λ e. same e.item new.item ≡ false) p other (absent_rest same laws new.item (laws.reflexive new.item) q apart)),

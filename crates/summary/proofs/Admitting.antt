@@ -1,6 +1,7 @@
 -- What a summary knows of its own row, and when the place that a finder gives is foreign.
 use Rattle.std.proofs.Common.{◌≡◌, ℕ, ◌+◌, ◌<◌, ◌≤◌, Bool, true, false, cond, not, eqb, ltb, leb, List, [], ◌∷◌, length, Some, None, Option, refl, ap, ◌∙◌, arith}
-use Rattle.std.proofs.lemmas.Bool.{both_ways, or_from, or_right, lt-leb, ltb-true}
+use Rattle.std.proofs.lemmas.Bool.{both_ways, or_from, lt-leb, ltb-true}
+use Rattle.calls.proofs.Stepping.{one_counted}
 use Rattle.rows.specs.Row.{one_if}
 use Rattle.table.specs.Placed.{Placed, places, at_place, placed_entry}
 use Rattle.counters.specs.declared.counters.Counters.{Counters}
@@ -22,22 +23,14 @@ reliable = record { used = λ s. refl; seated = seated; structured = structured 
 
 -- ---- places
 
-one_if_true : (b : Bool) → b ≡ true → one_if b ≡ 1
-one_if_true true t = refl
-one_if_true false t = absurd (both_ways false refl t)
-
-below_one : (b : Bool) → 1 ≤ one_if b → b ≡ true
-below_one true l = refl
-below_one false l = absurd (omega arith)
-
 module _ {T : Type 0} where
   -- A place that has an entry comes.
   comes : (p : ℕ) (row : List (Placed T)) (e : Placed T) → at_place p row ≡ Some e → 1 ≤ times p (places row)
-  comes p [] e is = absurd (let z : ◌≡◌ {A = ℕ} 0 1 = cc in omega arith)
+  comes p [] e is = absurd cc
   comes p (f ∷ row) e is = go (eqb p f.place) refl (comes p row e) is
     where
       go : (b : Bool) → eqb p f.place ≡ b → (at_place p row ≡ Some e → 1 ≤ times p (places row)) → cond b (Some f) (at_place p row) ≡ Some e → 1 ≤ one_if (eqb p f.place) + times p (places row)
-      go true t behind is = omega (arith, one_if_true (eqb p f.place) t)
+      go true t behind is = omega (arith, ap one_if t)
       go false t behind is = omega (arith, behind is)
 
   -- A place whose entry holds a same item is not foreign, and any other is.
@@ -45,12 +38,5 @@ module _ {T : Type 0} where
     pub own_place : (p : ℕ) (o : Option (Placed T)) → at_place p row ≡ o → entry_holds same (placed_entry o) x ≡ true → foreign_place same (length row) row x (Some p) ≡ false
     own_place p None is t = absurd (both_ways false refl t)
     own_place p (Some e) is t =
-        let below : p < length row = ltb-true p (length row) (below_one (ltb p (length row)) (omega (arith, comes p row e is, first p))) in
+        let below : p < length row = ltb-true p (length row) (one_counted (ltb p (length row)) (omega (arith, comes p row e is, first p))) in
         or_from (leb (length row) p) (not (holds same (at_place p row) x)) (lt-leb (length row) p below) (ap (λ o. not (holds same o x)) is ∙ ap not t)
-
-    pub other_place : (p : ℕ) (o : Option (Placed T)) → at_place p row ≡ o → entry_holds same (placed_entry o) x ≡ false → foreign_place same (length row) row x (Some p) ≡ true
-    other_place p o is t = or_right (leb (length row) p) (not (holds same (at_place p row) x)) (ap (λ q. not (holds same q x)) is ∙ go o t)
-      where
-        go : (q : Option (Placed T)) → entry_holds same (placed_entry q) x ≡ false → not (holds same q x) ≡ true
-        go (Some e) u = ap not u
-        go None u = refl

@@ -1,5 +1,5 @@
 -- What a watched hit tells is what is watched, between the rows before and after it.
-use Rattle.std.proofs.Common.{◌≡◌, ℕ, zero, suc, Bool, true, false, cond, ◌||◌, eqb, ltb, List, length, take, Some, None, Err, Option, Result, sym, refl, ap, ◌∙◌, subst, arith}
+use Rattle.std.proofs.Common.{◌≡◌, ℕ, zero, suc, Bool, false, List, length, take, None, Option, Result, sym, ap, ◌∙◌, subst, arith}
 use Rattle.items.specs.Sameness.{Equivalence}
 use Rattle.rows.specs.declared.entry.Entry.{Entry}
 use Rattle.rows.specs.Questions.{by_position, listed, watched}
@@ -9,22 +9,21 @@ use Rattle.table.specs.Placed.{Placed, entries, step}
 use Rattle.counters.specs.declared.counters.Counters.{Counters}
 use Rattle.counters.specs.Meaning.{size, placed}
 use Rattle.calls.specs.declared.refusal.Refusal.{Refusal}
-use Rattle.calls.specs.declared.refusal.Refusal.TheVariants.{Rank}
-use Rattle.calls.specs.Refusals.{unless_refused, limit, rank}
+use Rattle.calls.specs.Refusals.{limit, rank}
 use Rattle.calls.specs.Conditions.{Ranked}
 use Rattle.calls.specs.Calls.{entry_at, Accepted, is_foreign, HitEnds}
 use Rattle.calls.specs.Watching.{last_item, form_of, entered_by, left_by, told}
-use Rattle.calls.proofs.Refusing.{ok_is_not_err, refuses, rank_passes}
+use Rattle.calls.proofs.Refusing.{rank_passes}
 use Rattle.calls.proofs.Watching.{told_step}
 use Rattle.lists.proofs.Sorting.{sorted}
 use Rattle.summary.specs.Meaning.{reading}
 use Rattle.summary.proofs.Accepting.{not_foreign}
 
 -- What is told, by the parts that are looked at.
-pub told_by : {T : Type 0} (same : T → T → Bool) (given : Option T × Option T) (k : ℕ) (x form form' : T) (before after : List (Entry T)) (leads : Bool) (last : Option T) →
-    given ≡ (entered_by leads (listed same x (take k (by_position after))) form, left_by same last (take k (by_position after))) →
-    leads ≡ listed same x (take k (by_position before)) → last ≡ last_item (take k (by_position before)) → form ≡ form' → given ≡ told same k x form' before after
-told_by same given k x form form' before after leads last e l i f = cc
+pub told_by : {T : Type 0} (same : T → T → Bool) (given : Option T × Option T) (k : ℕ) (x form form' : T) (before after was is : List (Entry T)) (leads : Bool) (last : Option T) →
+    given ≡ (entered_by leads (listed same x is) form, left_by same last is) → is ≡ take k (by_position after) →
+    leads ≡ listed same x was → last ≡ last_item was → was ≡ take k (by_position before) → form ≡ form' → given ≡ told same k x form' before after
+told_by same given k x form form' before after was is leads last e after_is l i before_is f = cc
 
 module _ {T F : Type 0} (same : T → T → Bool) (laws : Equivalence same) (bindings : F → List (Binding T)) (room : F → ℕ) (lawful : F → Type 0) (s : Counters T) (f : F) (x : T) where
   pub told_hit : (k : ℕ) (place : Option ℕ) (s' : Counters T) (f' : F) → Ranked (size s) k → lookup same (bindings f) x ≡ place → is_foreign same bindings room lawful reading s f x ≡ false →
@@ -40,11 +39,3 @@ module _ {T F : Type 0} (same : T → T → Bool) (laws : Equivalence same) (bin
       HitEnds same bindings room lawful reading (limit s.total None) answer s f x r s' f' → HitEnds same bindings room lawful reading (rank (size s) k (limit s.total None)) answer s f x r s' f'
   ranked_ends k answer r s' f' ranked ends =
       subst (λ (o : Option Refusal). HitEnds same bindings room lawful reading o answer s f x r s' f') (sym (rank_passes (size s) k (limit s.total None) ranked)) ends
-
-  pub unranked_ends : {Answer : Type 0} (k : ℕ) (answer : Answer) (why : Refusal) (r : Result Answer Refusal) → Err why ≡ unless_refused (rank (size s) k None) → r ≡ Err why →
-      HitEnds same bindings room lawful reading (rank (size s) k (limit s.total None)) answer s f x r s f
-  unranked_ends k answer why r is e = refuses r _ _ (rank (size s) k (limit s.total None)) why (go (eqb k 0 || ltb (size s) k) is) e (record { summary = refl; finder = refl })
-    where
-      go : (b : Bool) → Err why ≡ unless_refused (cond b (Some Rank) None) → cond b (Some Rank) (limit s.total None) ≡ Some why
-      go true i = let same-refusal : why ≡ Rank = cc in ap Some (sym same-refusal)
-      go false i = absurd (ok_is_not_err (sym i))

@@ -24,8 +24,8 @@ fn rebind<T: Kind + Drop, F: Finder<T>>(finder: &mut F, old: &Binding<T>, item: 
 }
 
 /// A newcomer gets an unused counter.
-fn join<'a, T: Kind + Copy + Drop, F: Finder<T>>(
-    counters: &mut Counters<'a, T>,
+fn join<T: Kind + Copy + Drop, F: Finder<T>>(
+    counters: &mut Counters<'_, T>,
     finder: &mut F,
     item: T,
 )
@@ -37,8 +37,8 @@ fn join<'a, T: Kind + Copy + Drop, F: Finder<T>>(
 }
 
 /// A newcomer takes over the lowest counter.
-fn take_over<'a, T: Kind + Copy + Drop, F: Finder<T>>(
-    counters: &mut Counters<'a, T>,
+fn take_over<T: Kind + Copy + Drop, F: Finder<T>>(
+    counters: &mut Counters<'_, T>,
     finder: &mut F,
     item: T,
 )
@@ -51,24 +51,19 @@ fn take_over<'a, T: Kind + Copy + Drop, F: Finder<T>>(
 }
 
 /// Counts a hit of the item, whose counter is at the place; it has none if there is no place.
-pub fn count<'a, T: Kind + Copy + Drop, F: Finder<T>>(
-    counters: &mut Counters<'a, T>,
+pub fn count<T: Kind + Copy + Drop, F: Finder<T>>(
+    counters: &mut Counters<'_, T>,
     finder: &mut F,
     item: T,
     place: Option<usize>,
 )
     ensures { Counted T.Kind.same F.Finder.bindings F.Finder.room F.Finder.lawful counters.old finder.old item place counters.new finder.new }
 {
-    match place {
-        Some(place) => {
-            let _ = counters.raise(place);
-        }
-        None => {
-            if counters.used() < counters.size() {
-                join(counters, finder, item);
-            } else {
-                take_over(counters, finder, item);
-            }
-        }
+    if let Some(place) = place {
+        let _ = counters.raise(place);
+    } else if counters.used() < counters.size() {
+        join(counters, finder, item);
+    } else {
+        take_over(counters, finder, item);
     }
 }

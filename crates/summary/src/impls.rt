@@ -4,7 +4,7 @@ ghost use Rattle.summary.specs.Meaning.{reading, Structured};
 use crate::admission::{admit, locate};
 use crate::counting::count;
 use crate::figures::{entry_at, figures, form_of};
-use crate::leaders::{changes, survey};
+use crate::leaders::Leaders;
 use crate::summary::Summary;
 use calls::answers::{FrequentList, Line, TopList};
 use calls::refusal::Refusal;
@@ -47,9 +47,9 @@ impl<'a, T: Kind + Copy + Drop> Summary<T> for Counters<'a, T> {
         check_rank(self.size(), k)?;
         let place = admit(self, finder, &item)?;
         let form = form_of(entry_at(self, place), item);
-        let before = survey(self, k, &item);
+        let before = Leaders::new(self, k).survey(&item);
         count(self, finder, item, place);
-        Ok(changes(self, k, &item, form, before))
+        Ok(Leaders::new(self, k).changes(&item, form, before))
     }
 
     fn bracket<F: Finder<T>>(&self, finder: &F, item: &T) -> Result<(u32, u32), Refusal> {

@@ -5,6 +5,7 @@ use Rattle.std.specs.List.{flat_map, AllByRecursion as Each}
 use Rattle.std.proofs.lemmas.List.{length-append, append-nil}
 use Rattle.std.proofs.ByRecursion.{All-append, All-weaker}
 use Rattle.std.proofs.lemmas.Bool.{cases_eq}
+use Rattle.std.proofs.lemmas.List.Concat.{flat_map-append}
 use Rattle.links.specs.Tables.{edit}
 use Rattle.links.specs.Chains.{last_or, Off, Within}
 use Rattle.links.proofs.Alls.{all_every, all_left, all_right, all_mid, all_out, all_in}
@@ -16,11 +17,11 @@ use Rattle.table.specs.declared.lists.Lists.{Lists}
 use Rattle.table.specs.Placed.{Placed, put, insert}
 use Rattle.table.specs.Fields.{bucket_links, value_in, value_of, placed_of, placed_in, labelled}
 use Rattle.table.specs.Groups.{Group, Full, Loose, group, ats, with_group, with_free}
-use Rattle.table.specs.Moves.{TakenOut, HungUp, Differs, Revalued}
+use Rattle.table.specs.Moves.{TakenOut, Attached, Differs, Revalued}
 use Rattle.table.specs.Stands.{Sound, Rises, Among, worth, tally}
 use Rattle.table.proofs.Grouping.{holds_all}
 use Rattle.table.proofs.Rising.{rises_in, rises_before, rises_right, rises_out, rises_agree, all_agree, parts, all_with, all_with_it, rises_with, tally_append, tally_with, length_with, length_tally, in_left, in_right, in_out, among_right, among_swap, among_in, among_with}
-use Rattle.table.proofs.Rows.{joined_append, row_of, row, row_agree, row_counts, insert_between}
+use Rattle.table.proofs.Rows.{row_of, row, row_agree, row_counts, insert_between}
 
 module _ {T : Type 0} where
   -- The counter p is detached, and is to count v: the buckets of ls count less, those of rs as much or more, and a leads
@@ -188,7 +189,7 @@ module _ {T : Type 0} where
 
   -- ---- attached
 
-  pub record Attached (t t₂ : List (Place T)) (s : Lists) (used bound p v : ℕ) (rest : List Group) : Type 0 where
+  pub record AtCount (t t₂ : List (Place T)) (s : Lists) (used bound p v : ℕ) (rest : List Group) : Type 0 where
     pub gs : List Group
     pub fs : List ℕ
     pub sound : Sound t₂ s used bound gs fs
@@ -200,7 +201,7 @@ module _ {T : Type 0} where
     agree_off r (g ∷ gs) o = (r.other g.at o.0, agree_off r gs o.1)
 
     -- In a fresh bucket.
-    attach_fresh : (ls rs : List Group) (b : ℕ) (fs : List ℕ) → Between t s used bound a p v ls rs (b ∷ fs) → Differs t v rs → Each (λ g. v < worth t g) rs → HungUp t t₂ s s₂ a v p → Attached t t₂ s₂ used bound p v (ls ++ rs)
+    attach_fresh : (ls rs : List Group) (b : ℕ) (fs : List ℕ) → Between t s used bound a p v ls rs (b ∷ fs) → Differs t v rs → Each (λ g. v < worth t g) rs → Attached t t₂ s s₂ a v p → AtCount t t₂ s₂ used bound p v (ls ++ rs)
     attach_fresh ls rs b fs h d hi k =
         let g : Group = group b (p ∷ []) in
         let o = k.fresh ls rs b fs h.full h.loose h.after d in
@@ -240,8 +241,8 @@ module _ {T : Type 0} where
               };
           shows = λ x err r.
               let e = put p x v err in
-              let e₁ : row t₂ (ls ++ g ∷ rs) ≡ row t₂ ls ++ (row_of t₂ g ++ row t₂ rs) = joined_append (row_of t₂) ls (g ∷ rs) in
-              let e₂ : row t (ls ++ rs) ≡ row t ls ++ row t rs = joined_append (row_of t) ls rs in
+              let e₁ : row t₂ (ls ++ g ∷ rs) ≡ row t₂ ls ++ (row_of t₂ g ++ row t₂ rs) = flat_map-append (row_of t₂) ls (g ∷ rs) in
+              let e₂ : row t (ls ++ rs) ≡ row t ls ++ row t rs = flat_map-append (row_of t) ls rs in
               let el = row_agree t t₂ k.entries ls sl in
               let er = row_agree t t₂ k.entries rs sr in
               let eg : row_of t₂ g ≡ e ∷ [] = append-nil (placed_in t₂ (worth t₂ g) p) ∙ ap (λ (u : ℕ). placed_in t₂ u p) here ∙ k.entries v p ∙ r v in
@@ -251,7 +252,7 @@ module _ {T : Type 0} where
         }
 
     -- In the next bucket, which has that count.
-    attach_same : (ls : List Group) (b : ℕ) (ms : List ℕ) (rs : List Group) (fs : List ℕ) → Between t s used bound a p v ls (group b ms ∷ rs) fs → value_in t b ≡ v → HungUp t t₂ s s₂ a v p → Attached t t₂ s₂ used bound p v (ls ++ group b ms ∷ rs)
+    attach_same : (ls : List Group) (b : ℕ) (ms : List ℕ) (rs : List Group) (fs : List ℕ) → Between t s used bound a p v ls (group b ms ∷ rs) fs → value_in t b ≡ v → Attached t t₂ s s₂ a v p → AtCount t t₂ s₂ used bound p v (ls ++ group b ms ∷ rs)
     attach_same ls b ms rs fs h ev k =
         let g : Group = group b ms in
         let g' : Group = group b (ms ++ p ∷ []) in
@@ -293,10 +294,10 @@ module _ {T : Type 0} where
               let E = placed_in t (value_in t b) in
               let m = flat_map E ms in
               let e₁ : row t₂ (ls ++ g' ∷ rs) ≡ row t (ls ++ g' ∷ rs) = row_agree t t₂ k.entries (ls ++ g' ∷ rs) (same (ls ++ g' ∷ rs)) in
-              let e₂ : row t (ls ++ g' ∷ rs) ≡ row t ls ++ (flat_map E (ms ++ p ∷ []) ++ row t rs) = joined_append (row_of t) ls (g' ∷ rs) in
-              let e₃ : row t (ls ++ g ∷ rs) ≡ row t ls ++ (m ++ row t rs) = joined_append (row_of t) ls (g ∷ rs) in
+              let e₂ : row t (ls ++ g' ∷ rs) ≡ row t ls ++ (flat_map E (ms ++ p ∷ []) ++ row t rs) = flat_map-append (row_of t) ls (g' ∷ rs) in
+              let e₃ : row t (ls ++ g ∷ rs) ≡ row t ls ++ (m ++ row t rs) = flat_map-append (row_of t) ls (g ∷ rs) in
               let ep : E p ≡ e ∷ [] = ap (λ (u : ℕ). placed_in t u p) ev ∙ r v in
-              let e₄ : flat_map E (ms ++ p ∷ []) ≡ m ++ e ∷ [] = joined_append E ms (p ∷ []) ∙ ap (λ (y : List (Placed T)). m ++ y) (append-nil (E p) ∙ ep) in
+              let e₄ : flat_map E (ms ++ p ∷ []) ≡ m ++ e ∷ [] = flat_map-append E ms (p ∷ []) ∙ ap (λ (y : List (Placed T)). m ++ y) (append-nil (E p) ∙ ep) in
               let e₅ : row t ls ++ (m ++ row t rs) ≡ (row t ls ++ m) ++ row t rs = sym (append_assoc (row t ls) m (row t rs)) in
               let e₆ : row t ls ++ ((m ++ e ∷ []) ++ row t rs) ≡ (row t ls ++ m) ++ e ∷ row t rs =
               ap (λ (y : List (Placed T)). row t ls ++ y) (append_assoc m (e ∷ []) (row t rs)) ∙ sym (append_assoc (row t ls) m (e ∷ row t rs)) in
@@ -311,7 +312,7 @@ module _ {T : Type 0} where
         }
 
     -- While a counter is detached there are more places than buckets in use, so a free bucket stands by.
-    attach_free : (ls rs : List Group) (fs : List ℕ) → Between t s used bound a p v ls rs fs → Differs t v rs → Each (λ g. v < worth t g) rs → HungUp t t₂ s s₂ a v p → Attached t t₂ s₂ used bound p v (ls ++ rs)
+    attach_free : (ls rs : List Group) (fs : List ℕ) → Between t s used bound a p v ls rs fs → Differs t v rs → Each (λ g. v < worth t g) rs → Attached t t₂ s s₂ a v p → AtCount t t₂ s₂ used bound p v (ls ++ rs)
     attach_free ls rs [] h d hi k =
         let l = length_tally (ls ++ rs) h.filled in
         let c = h.counters in
@@ -319,7 +320,7 @@ module _ {T : Type 0} where
         let m = h.fits in absurd (omega arith)
     attach_free ls rs (b ∷ fs) h d hi k = attach_fresh ls rs b fs h d hi k
 
-    pub attached : (ls rs : List Group) (fs : List ℕ) → Between t s used bound a p v ls rs fs → HungUp t t₂ s s₂ a v p → Attached t t₂ s₂ used bound p v (ls ++ rs)
+    pub attached : (ls rs : List Group) (fs : List ℕ) → Between t s used bound a p v ls rs fs → Attached t t₂ s s₂ a v p → AtCount t t₂ s₂ used bound p v (ls ++ rs)
     attached ls [] fs h k = attach_free ls [] fs h tt tt k
     attached ls (g ∷ rs) fs h k =
         ⊎_elim (λ e. attach_same ls g.at g.members rs fs h e k)

@@ -1,6 +1,6 @@
 -- m places below m, none twice, are all of them: each comes once.
-use Rattle.std.proofs.Common.{◌≡◌, ℕ, zero, suc, ◌+◌, ◌<◌, ◌≤◌, cond, eqb, ltb, List, [], ◌∷◌, length, sym, refl, ◌∙◌, ⊎_elim, arith}
-use Rattle.std.proofs.lemmas.Bool.{eqb-true, eqb-false, ltb-true, ltb-false, cond_both, cases_lt}
+use Rattle.std.proofs.Common.{◌≡◌, ℕ, zero, suc, ◌+◌, ◌<◌, ◌≤◌, cond, eqb, ltb, List, [], ◌∷◌, length, sym, refl, ◌∙◌, ⊎_elim, arith, inl, inr}
+use Rattle.std.proofs.lemmas.Bool.{eqb-true, cond_both, cases_lt, cond-true, cond-false, lt-ltb, le-ltb, eq-eqb, ne_eqb, cases_order}
 use Rattle.std.proofs.ByRecursion.{All-weaker}
 use Rattle.links.specs.Chains.{Off, Apart, Within}
 use Rattle.table.specs.Structure.{times, once}
@@ -11,7 +11,7 @@ times_off : (c : ℕ) (xs : List ℕ) → Off c xs → times c xs ≡ 0
 times_off c [] o = refl
 times_off c (x ∷ xs) o =
     let r = times_off c xs o.1 in
-    cond_both (eqb c x) 1 0 (λ n. n + times c xs ≡ 0) (λ e. absurd (o.0 (sym (eqb-true c x e)))) (λ e. omega arith)
+    omega (arith, cond-false {A = ℕ} (eqb c x) 1 0 (ne_eqb c x (λ e. o.0 (sym e))))
 
 times_most : (c : ℕ) (xs : List ℕ) → Apart xs → times c xs ≤ 1
 times_most c [] a = omega arith
@@ -31,27 +31,26 @@ total_none : (n : ℕ) → total n [] ≡ 0
 total_none zero = refl
 total_none (suc n) = let r = total_none n in omega arith
 
-once_more : (n x : ℕ) → cond (eqb n x) 1 0 + once n x ≡ once (suc n) x
-once_more n x =
-    cond_both (eqb n x) 1 0 (λ k. k + once n x ≡ once (suc n) x)
-    (λ e. let q = eqb-true n x e in
-    cond_both (ltb x n) 1 0 (λ k. 1 + k ≡ once (suc n) x) (λ l. let l' = ltb-true x n l in absurd (omega arith))
-    (λ l. cond_both (ltb x (suc n)) 1 0 (λ k. 1 + 0 ≡ k) (λ m. refl) (λ m. let m' = ltb-false x (suc n) m in absurd (omega arith))))
-    (λ e. let q = eqb-false n x e in
-    cond_both (ltb x n) 1 0 (λ k. 0 + k ≡ once (suc n) x)
-    (λ l. let l' = ltb-true x n l in cond_both (ltb x (suc n)) 1 0 (λ k. 0 + 1 ≡ k) (λ m. refl) (λ m. let m' = ltb-false x (suc n) m in absurd (omega arith)))
-    (λ l. let l' = ltb-false x n l in
-    cond_both (ltb x (suc n)) 1 0 (λ k. 0 + 0 ≡ k) (λ m. let m' = ltb-true x (suc n) m in absurd (q (omega arith))) (λ m. refl)))
-
-total_more : (n x : ℕ) (xs : List ℕ) → total n (x ∷ xs) ≡ once n x + total n xs
-total_more zero x xs = cond_both (ltb x 0) 1 0 (λ k. 0 ≡ k + 0) (λ l. let l' = ltb-true x 0 l in absurd (omega arith)) (λ l. refl)
-total_more (suc n) x xs = let r = total_more n x xs in let q = once_more n x in omega arith
-
 once_below : (n x : ℕ) → x < n → once n x ≡ 1
-once_below n x l = cond_both (ltb x n) 1 0 (λ k. k ≡ 1) (λ e. refl) (λ e. let e' = ltb-false x n e in absurd (omega arith))
+once_below n x l = cond-true (ltb x n) 1 0 (lt-ltb x n l)
 
 once_past : (n x : ℕ) → n ≤ x → once n x ≡ 0
-once_past n x l = cond_both (ltb x n) 1 0 (λ k. k ≡ 0) (λ e. let e' = ltb-true x n e in absurd (omega arith)) (λ e. refl)
+once_past n x l = cond-false (ltb x n) 1 0 (le-ltb x n l)
+
+once_more : (n x : ℕ) → cond (eqb n x) 1 0 + once n x ≡ once (suc n) x
+once_more n x = elim (cases_order n x) [
+  | inl same ↦ omega (arith, cond-true {A = ℕ} (eqb n x) 1 0 (eq-eqb n x same), once_past n x (omega arith), once_below (suc n) x (omega arith))
+  | inr other ↦
+      let none : cond {A = ℕ} (eqb n x) 1 0 ≡ 0 = cond-false {A = ℕ} (eqb n x) 1 0 (ne_eqb n x (omega arith)) in
+      elim other [
+        | inl less ↦ omega (arith, once_past n x (omega arith), once_past (suc n) x (omega arith))
+        | inr more ↦ omega (arith, once_below n x more, once_below (suc n) x (omega arith))
+      ]
+]
+
+total_more : (n x : ℕ) (xs : List ℕ) → total n (x ∷ xs) ≡ once n x + total n xs
+total_more zero x xs = omega (arith, once_past 0 x (omega arith))
+total_more (suc n) x xs = let r = total_more n x xs in let q = once_more n x in omega arith
 
 total_within : (n : ℕ) (xs : List ℕ) → Within n xs → total n xs ≡ length xs
 total_within n [] w = total_none n

@@ -1,22 +1,24 @@
 -- The groups of a table after each edit: a counter out of its bucket, a counter into one, a bucket out of use, one into use.
 use Rattle.std.proofs.Common.{◌≡◌, ℕ, ◌<◌, ◌⊎◌, List, [], ◌∷◌, ◌++◌, length, Some, None, Option, sym, refl, ap, ◌∙◌, inl, inr, append-nil}
+use Rattle.std.proofs.lemmas.Option.{same_Some}
 use Rattle.std.specs.List.{AllByRecursion as Each}
 use Rattle.std.proofs.ByRecursion.{All-append, All-weaker}
 use Rattle.std.proofs.lemmas.List.{map-append}
+use Rattle.rows.proofs.Lists.{all_both}
 use Rattle.links.specs.declared.ends.Ends.{Ends}
 use Rattle.links.specs.Tables.{edit, edit_at}
 use Rattle.links.specs.Chains.{first_or, last_or, Off, Apart, Cross}
 use Rattle.links.specs.Lists.{Chained, Listed, next_in, prev_in, unlinking, linking, ends_out, ends_in}
-use Rattle.links.proofs.Alls.{all_left, all_right, all_mid, all_out, all_in, all_both}
+use Rattle.links.proofs.Alls.{all_left, all_right, all_mid, all_out, all_in}
 use Rattle.links.proofs.Places.{apart_off, cross_first, cross_right, cross_join, cross_sym, cross_rest}
 use Rattle.links.proofs.Tables.{read_kept, read_kept_at, read_same, length_edit}
-use Rattle.links.proofs.Chains.{some_inj, Clear, Same, clear_none, clear_last, clear_off, same_all}
+use Rattle.links.proofs.Chains.{Clear, Same, clear_none, clear_last, clear_off, same_all}
 use Rattle.links.proofs.Listing.{read_clear, same_clear, same_kept, chained_kept, chained_clear, prev_clear, next_clear, listed_out, listed_in, length_unlinking, length_linking, unlinking_other, linking_other}
 use Rattle.table.specs.declared.place.Place.{Place}
 use Rattle.table.specs.declared.lists.Lists.{Lists}
 use Rattle.table.specs.Fields.{counter_links, bucket_links, owner_of, members_of, no_ends, owner_in, members_in, with_members, with_owner, emptied}
 use Rattle.table.specs.Groups.{Group, Holds, Full, Loose, group, ats}
-use Rattle.table.specs.Moves.{pulled_from, hung_in, added_in}
+use Rattle.table.specs.Moves.{pulled_from, attached_in, added_in}
 use Rattle.table.proofs.Lawful.{counter_lawful, bucket_lawful}
 
 -- Counters that name different buckets are different.
@@ -108,7 +110,7 @@ module _ {T : Type 0} (t : List (Place T)) (b c : ℕ) (xs zs : List ℕ) (hg : 
       let t₁ = edit_at p (counter_links.put_next n) t in
       let t₂ = edit_at n (counter_links.put_prev p) t₁ in
       let cr : Cross (xs ++ c ∷ zs) h.members = cross_by (owner_in t) b h.at (λ e. ne (sym e)) (xs ++ c ∷ zs) h.members hg.mine hh.mine in
-      holds_edit t₂ h (Some b) (with_members (ends_out counter_links t c (members_in t b))) (inr (record { next = λ x. refl; prev = λ x. refl; owner = λ x. refl })) (inl (λ q. ne (some_inj h.at b q)))
+      holds_edit t₂ h (Some b) (with_members (ends_out counter_links t c (members_in t b))) (inr (record { next = λ x. refl; prev = λ x. refl; owner = λ x. refl })) (inl (λ q. ne (same_Some h.at b q)))
       (holds_edit t₁ h n (counter_links.put_prev p) (inl (next_clear counter_links t xs c zs hg.list.list h.members cr)) (inr (λ x. refl))
       (holds_edit t h p (counter_links.put_next n) (inl (prev_clear counter_links t xs c zs hg.list.list h.members cr)) (inr (λ x. refl)) hh))
 
@@ -179,8 +181,8 @@ module _ {T : Type 0} (t : List (Place T)) (s : Lists) (ls rs : List Group) (b c
 -- ---- a counter is put at the end of a bucket's list
 
 module _ {T : Type 0} (t : List (Place T)) (b c : ℕ) (xs : List ℕ) (hg : Holds t (group b xs)) where
-  hang_other : (h : Group) → (h.at ≡ b → ⊥) → Holds t h × Off c h.members → Holds (hung_in b c t) h
-  hang_other h ne hh =
+  attach_other : (h : Group) → (h.at ≡ b → ⊥) → Holds t h × Off c h.members → Holds (attached_in b c t) h
+  attach_other h ne hh =
       let ends = members_in t b in
       let l = ends.last in
       let t₁ = edit_at l (counter_links.put_next (Some c)) t in
@@ -190,14 +192,14 @@ module _ {T : Type 0} (t : List (Place T)) (b c : ℕ) (xs : List ℕ) (hg : Hol
       let cr : Cross xs h.members = cross_by (owner_in t) b h.at (λ e. ne (sym e)) xs h.members hg.mine hh.0.mine in
       let cl : Clear l h.members = rw hg.list.stops (clear_last None xs h.members (clear_none h.members) cr) in
       let cc' : Clear (Some c) h.members = clear_off c h.members hh.1 in
-      holds_edit t₄ h (Some b) (with_members (ends_in l None c ends)) (inr (record { next = λ x. refl; prev = λ x. refl; owner = λ x. refl })) (inl (λ q. ne (some_inj h.at b q)))
+      holds_edit t₄ h (Some b) (with_members (ends_in l None c ends)) (inr (record { next = λ x. refl; prev = λ x. refl; owner = λ x. refl })) (inl (λ q. ne (same_Some h.at b q)))
       (holds_edit t₃ h (Some c) (with_owner b) (inl cc') (inr (λ x. refl))
       (holds_edit t₂ h (Some c) (counter_links.put_prev l) (inl cc') (inr (λ x. refl))
       (holds_edit t₁ h (Some c) (counter_links.put_next None) (inl cc') (inr (λ x. refl))
       (holds_edit t h l (counter_links.put_next (Some c)) (inl cl) (inr (λ x. refl)) hh.0))))
 
-  hang_buckets : (ws : List ℕ) → Chained bucket_links t ws → Chained bucket_links (hung_in b c t) ws
-  hang_buckets ws h =
+  attach_buckets : (ws : List ℕ) → Chained bucket_links t ws → Chained bucket_links (attached_in b c t) ws
+  attach_buckets ws h =
       let ends = members_in t b in
       let l = ends.last in
       let t₁ = edit_at l (counter_links.put_next (Some c)) t in
@@ -210,8 +212,8 @@ module _ {T : Type 0} (t : List (Place T)) (b c : ℕ) (xs : List ℕ) (hg : Hol
       (chained_kept bucket_links t₁ ws (Some c) (counter_links.put_next None) (λ x. refl) (λ x. refl)
       (chained_kept bucket_links t ws l (counter_links.put_next (Some c)) (λ x. refl) (λ x. refl) h))))
 
-  hang_group : Off c xs → b < length t → c < length t → Holds (hung_in b c t) (group b (xs ++ c ∷ []))
-  hang_group oc wb wc =
+  attach_group : Off c xs → b < length t → c < length t → Holds (attached_in b c t) (group b (xs ++ c ∷ []))
+  attach_group oc wb wc =
       let ends = members_in t b in
       let l = ends.last in
       let e = ends_in l None c ends in
@@ -243,21 +245,21 @@ module _ {T : Type 0} (t : List (Place T)) (b c : ℕ) (xs : List ℕ) (hg : Hol
         mine = All-append (λ x. owner_in t₅ x ≡ b) xs (c ∷ []) m₅ (mc, tt);
       }
 
-pub hang_full : {T : Type 0} (t : List (Place T)) (s : Lists) (ls rs : List Group) (b c : ℕ) (xs fs : List ℕ) → Full t s (ls ++ group b xs ∷ rs) fs → Loose t (ls ++ group b xs ∷ rs) c → Full (hung_in b c t) s (ls ++ group b (xs ++ c ∷ []) ∷ rs) fs
-hang_full t s ls rs b c xs fs h k =
+pub attach_full : {T : Type 0} (t : List (Place T)) (s : Lists) (ls rs : List Group) (b c : ℕ) (xs fs : List ℕ) → Full t s (ls ++ group b xs ∷ rs) fs → Loose t (ls ++ group b xs ∷ rs) c → Full (attached_in b c t) s (ls ++ group b (xs ++ c ∷ []) ∷ rs) fs
+attach_full t s ls rs b c xs fs h k =
     let g : Group = group b xs in
     let g' : Group = group b (xs ++ c ∷ []) in
-    let t' = hung_in b c t in
+    let t' = attached_in b c t in
     let hg : Holds t g = all_mid (Holds t) ls g rs h.groups in
     let oc : Off c xs = all_mid (λ i. Off c i.members) ls g rs k.off in
     let w : b < length t = within_mid (length t) ls g rs h.buckets.list.within in
     let es : ats (ls ++ g' ∷ rs) ≡ ats (ls ++ g ∷ rs) = ats_swap ls g g' rs refl in
     record {
-      buckets = listed_as t t' (ats (ls ++ g ∷ rs)) (ats (ls ++ g' ∷ rs)) s.main es (hang_buckets t b c xs hg (ats (ls ++ g ∷ rs))) h.buckets;
+      buckets = listed_as t t' (ats (ls ++ g ∷ rs)) (ats (ls ++ g' ∷ rs)) s.main es (attach_buckets t b c xs hg (ats (ls ++ g ∷ rs))) h.buckets;
       groups =
-          groups_step (λ i. Holds t i × Off c i.members) (Holds t') ls g g' rs h.buckets.list.apart (hang_other t b c xs hg) (hang_group t b c xs hg oc w k.within)
-          (all_both (Holds t) (λ i. Off c i.members) (ls ++ g ∷ rs) h.groups k.off);
-      unused = listed_as t t' fs fs s.free refl (hang_buckets t b c xs hg fs) h.unused;
+          groups_step (λ i. Holds t i × Off c i.members) (Holds t') ls g g' rs h.buckets.list.apart (attach_other t b c xs hg) (attach_group t b c xs hg oc w k.within)
+          (all_both (Holds t) (λ i. Off c i.members) (λ i. Holds t i × Off c i.members) (λ i held off. (held, off)) (ls ++ g ∷ rs) h.groups k.off);
+      unused = listed_as t t' fs fs s.free refl (attach_buckets t b c xs hg fs) h.unused;
       apart = rw es h.apart;
     }
 
@@ -355,7 +357,7 @@ module _ {T : Type 0} where
       let b₂ : Listed bucket_links t₂ ws (ends_in a z b s.main) = record { list = kept ws b₁.list; begins = b₁.begins; stops = b₁.stops } in
       let h₂ : Each (Holds t₂) gs =
       each_other (Holds t₁) (Holds t₂) b gs o
-      (λ i ne hi. holds_edit t₁ i (Some b) (emptied v) (inr (record { next = λ x. refl; prev = λ x. refl; owner = λ x. refl })) (inl (λ q. ne (some_inj i.at b q))) hi)
+      (λ i ne hi. holds_edit t₁ i (Some b) (emptied v) (inr (record { next = λ x. refl; prev = λ x. refl; owner = λ x. refl })) (inl (λ q. ne (same_Some i.at b q))) hi)
       (holds_linking t a z b gs h.groups) in
       let ee : members_in t₂ b ≡ no_ends = read_same members_of no_ends (emptied v) no_ends (λ x. refl) t₁ b (rw (length_linking bucket_links bucket_lawful a z b t) w) in
       let hg : Holds t₂ g = record { list = record { list = record { chain = tt; apart = tt; within = tt }; begins = rw ee refl; stops = rw ee refl }; mine = tt } in

@@ -2,7 +2,7 @@ pub mod Lawful
 pub mod Quiets
 pub mod Grouping
 pub mod Bucketing
-pub mod Hanging
+pub mod Targeting
 pub mod Rising
 pub mod Rows
 pub mod Attaching

@@ -40,7 +40,7 @@ module _ {T : Type 0} (t : List (Place T)) where
   row_crowd [] w = refl
   row_crowd (g ∷ gs) w = members_are (worth t g) g.members w.0 (row t gs) ∙ ap (λ (l : List ℕ). g.members ++ l) (row_crowd gs w.1)
 
-  -- ---- no counter hangs twice
+  -- ---- no counter is attached twice
 
   off_crowd : (p b : ℕ) → owner_in t p ≡ b → (gs : List Group) → Off b (ats gs) → Each (Holds t) gs → Off p (crowd gs)
   off_crowd p b e [] o h = tt

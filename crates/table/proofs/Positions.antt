@@ -1,8 +1,8 @@
 -- Lists of places by position: the last, the one before another, and where none comes twice.
 use Rattle.std.proofs.Common.{◌≡◌, ℕ, zero, suc, ◌-◌, eqb, List, [], ◌∷◌, ◌++◌, length, Some, None, sym, refl, ◌∙◌, arith}
+use Rattle.std.proofs.lemmas.Option.{same_Some}
 use Rattle.std.proofs.lemmas.Bool.{eqb-true, eq-eqb, cond_both, cond-true}
 use Rattle.links.specs.Chains.{Off, Apart, first_or, last_or}
-use Rattle.links.proofs.Chains.{some_inj, some_none}
 use Rattle.table.specs.Placed.{nth, before}
 
 pub nth_first : (xs : List ℕ) → first_or xs None ≡ nth xs 0
@@ -40,14 +40,14 @@ before_off p (x ∷ xs) o = before_none p x xs o.1
 -- ---- positions, where none comes twice
 
 pub nth_off : (y : ℕ) (xs : List ℕ) (i p : ℕ) → Off y xs → nth xs i ≡ Some p → p ≡ y → ⊥
-nth_off y [] i p o e q = some_none p (sym e)
-nth_off y (x ∷ xs) zero p o e q = o.0 (some_inj x p e ∙ q)
+nth_off y [] i p o e q = cc
+nth_off y (x ∷ xs) zero p o e q = o.0 (same_Some x p e ∙ q)
 nth_off y (x ∷ xs) (suc i) p o e q = nth_off y xs i p o.1 e q
 
 -- The place at one position less is the one before.
 pub nth_before : (xs : List ℕ) (i p : ℕ) → Apart xs → nth xs (suc i) ≡ Some p → before p xs ≡ nth xs i
-nth_before [] i p a e = absurd (some_none p (sym e))
-nth_before (x ∷ []) i p a e = absurd (some_none p (sym e))
-nth_before (x ∷ y ∷ ys) zero p a e = cond-true (eqb p y) (Some x) (before p (y ∷ ys)) (eq-eqb p y (sym (some_inj y p e)))
+nth_before [] i p a e = absurd cc
+nth_before (x ∷ []) i p a e = absurd cc
+nth_before (x ∷ y ∷ ys) zero p a e = cond-true (eqb p y) (Some x) (before p (y ∷ ys)) (eq-eqb p y (sym (same_Some y p e)))
 nth_before (x ∷ y ∷ ys) (suc i) p a e =
     cond_both (eqb p y) (Some x) (before p (y ∷ ys)) (λ r. r ≡ nth (y ∷ ys) i) (λ h. absurd (nth_off y ys i p a.1.0 e (eqb-true p y h))) (λ h. nth_before (y ∷ ys) i p a.1 e)

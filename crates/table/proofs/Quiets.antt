@@ -6,7 +6,7 @@ use Rattle.links.specs.Lists.{next_in, prev_in, unlinking, linking, ends_out, en
 use Rattle.links.proofs.Tables.{read_kept_at, read_same, read_other, read_kept, length_edit_at}
 use Rattle.table.specs.declared.place.Place.{Place}
 use Rattle.table.specs.Fields.{counter_links, bucket_links, value_of, members_in, placed_of, with_members, with_owner, emptied}
-use Rattle.table.specs.Moves.{Quiet, Revalued, Entries, pulled_from, hung_in, added_in}
+use Rattle.table.specs.Moves.{Quiet, Revalued, Entries, pulled_from, attached_in, added_in}
 
 module _ {T : Type 0} where
   -- The edit leaves the entry of the counter, and the count of the bucket.
@@ -60,14 +60,14 @@ module _ {T : Type 0} where
       (quiet_unlinking counter_links (λ w. ((λ c v x. refl), (λ x. refl))) (λ w. ((λ c v x. refl), (λ x. refl))) c t)
       (quiet_edit t₁ (Some b) (with_members (ends_out counter_links t c (members_in t b))) ((λ c v x. refl), (λ x. refl)))
 
-  pub quiet_hung : (b c : ℕ) (t : List (Place T)) → Quiet t (hung_in b c t)
-  quiet_hung b c t =
+  pub quiet_attached : (b c : ℕ) (t : List (Place T)) → Quiet t (attached_in b c t)
+  quiet_attached b c t =
       let ends = members_in t b in
       let t₁ = linking counter_links ends.last None c t in
       let t₂ = edit_at (Some c) (with_owner b) t₁ in
-      quiet_then t t₁ (hung_in b c t)
+      quiet_then t t₁ (attached_in b c t)
       (quiet_linking counter_links (λ w. ((λ c v x. refl), (λ x. refl))) (λ w. ((λ c v x. refl), (λ x. refl))) ends.last None c t)
-      (quiet_then t₁ t₂ (hung_in b c t) (quiet_edit t₁ (Some c) (with_owner b) ((λ c v x. refl), (λ x. refl)))
+      (quiet_then t₁ t₂ (attached_in b c t) (quiet_edit t₁ (Some c) (with_owner b) ((λ c v x. refl), (λ x. refl)))
       (quiet_edit t₂ (Some b) (with_members (ends_in ends.last None c ends)) ((λ c v x. refl), (λ x. refl))))
 
   -- A bucket put in shows by its count alone.

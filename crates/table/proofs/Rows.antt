@@ -1,8 +1,9 @@
 -- The row of groups: what its entries have in common, an entry put in and taken out, and that the links say it.
-use Rattle.std.proofs.Common.{◌≡◌, ℕ, zero, suc, ◌<◌, ◌≤◌, eqb, leb, List, [], ◌∷◌, ◌++◌, length, Some, None, Option, sym, refl, ap, ◌∙◌, append_assoc, le_of_suc-le-suc, not-suc-le-zero, arith}
+use Rattle.std.proofs.Common.{◌≡◌, ℕ, zero, suc, ◌<◌, ◌≤◌, eqb, leb, List, [], ◌∷◌, ◌++◌, length, Some, None, Option, sym, refl, ap, ◌∙◌, le_of_suc-le-suc, not-suc-le-zero, arith}
 use Rattle.std.specs.List.{flat_map, AllByRecursion as Each}
 use Rattle.std.proofs.ByRecursion.{All-append, All-weaker}
 use Rattle.std.proofs.lemmas.Bool.{leb-true, leb-false, eqb-true, eq-eqb, cond_both, cond-true}
+use mathlib.Core.Path.{fun_ext}
 use Rattle.links.specs.Tables.{read}
 use Rattle.links.specs.Chains.{Chain, first_or}
 use Rattle.links.specs.Lists.{next_in, prev_in}
@@ -17,13 +18,8 @@ use Rattle.table.specs.Stands.{Sound, worth, tally}
 
 -- ---- lists put together
 
-pub joined_append : {X A : Type 0} (f : X → List A) (xs ys : List X) → flat_map f (xs ++ ys) ≡ flat_map f xs ++ flat_map f ys
-joined_append f [] ys = refl
-joined_append f (x ∷ xs) ys = ap (λ (r : List _). f x ++ r) (joined_append f xs ys) ∙ sym (append_assoc (f x) (flat_map f xs) (flat_map f ys))
-
 pub joined_same : {X A : Type 0} (f g : X → List A) → ((x : X) → g x ≡ f x) → (xs : List X) → flat_map g xs ≡ flat_map f xs
-joined_same f g h [] = refl
-joined_same f g h (x ∷ xs) = let e = h x in let r = joined_same f g h xs in cc
+joined_same f g h xs = ap (λ k. flat_map k xs) (fun_ext h)
 
 all_joined : {X A : Type 0} (P : A → Type 0) (f : X → List A) (xs : List X) → Each (λ x. Each P (f x)) xs → Each P (flat_map f xs)
 all_joined P f [] h = tt

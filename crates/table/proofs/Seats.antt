@@ -1,7 +1,8 @@
--- One counter in use, at p: where it hangs, what the row has before and behind it, and what is read of it without a walk.
+-- One counter in use, at p: where it stands, what the row has before and behind it, and what is read of it without a walk.
 use Rattle.std.proofs.Common.{◌≡◌, ℕ, ◌<◌, ◌≤◌, List, [], ◌∷◌, ◌++◌, length, Some, None, Option, sym, refl, ap, ◌∙◌, append_assoc}
 use Rattle.std.specs.List.{flat_map, AllByRecursion as Each}
 use Rattle.std.proofs.ByRecursion.{All-append}
+use Rattle.std.proofs.lemmas.List.Concat.{flat_map-append}
 use Rattle.links.specs.Chains.{Off, Apart, last_or}
 use Rattle.links.proofs.Alls.{all_left, all_mid}
 use Rattle.links.proofs.Places.{off_left, apart_right, apart_cross, cross_first}
@@ -18,7 +19,7 @@ use Rattle.table.specs.Stands.{Sound}
 use Rattle.table.proofs.Grouping.{pull_holds, pull_owner, pull_loose}
 use Rattle.table.proofs.Bucketing.{prev_groups}
 use Rattle.table.proofs.Rising.{parts}
-use Rattle.table.proofs.Rows.{joined_append, row_of, row, row_places, members_places, row_sound, at_mid, off_mid, stood, reads}
+use Rattle.table.proofs.Rows.{row_of, row, row_places, members_places, row_sound, at_mid, off_mid, stood, reads}
 use Rattle.table.proofs.Positions.{before_mid}
 use Rattle.table.proofs.Looking.{crowd, crowd_apart, last_crowd, or_last}
 
@@ -53,13 +54,13 @@ module _ {T : Type 0} (t : List (Place T)) (s : Lists) (used total : ℕ) (ls : 
       let X = flat_map E xs in
       let Z = flat_map E zs in
       let Y = row t rs in
-      let eo : flat_map E (xs ++ p ∷ zs) ≡ X ++ own ∷ Z = joined_append E xs (p ∷ zs) ∙ ap (λ (r : List (Placed T)). X ++ (r ++ Z)) (own_read (value_in t b)) in
-      row_sound t s used total (ls ++ group b (xs ++ p ∷ zs) ∷ rs) fs h ∙ joined_append (row_of t) ls (group b (xs ++ p ∷ zs) ∷ rs) ∙ ap (λ (r : List (Placed T)). L ++ (r ++ Y)) eo
+      let eo : flat_map E (xs ++ p ∷ zs) ≡ X ++ own ∷ Z = flat_map-append E xs (p ∷ zs) ∙ ap (λ (r : List (Placed T)). X ++ (r ++ Z)) (own_read (value_in t b)) in
+      row_sound t s used total (ls ++ group b (xs ++ p ∷ zs) ∷ rs) fs h ∙ flat_map-append (row_of t) ls (group b (xs ++ p ∷ zs) ∷ rs) ∙ ap (λ (r : List (Placed T)). L ++ (r ++ Y)) eo
       ∙ ap (λ (r : List (Placed T)). L ++ r) (append_assoc X (own ∷ Z) Y) ∙ sym (append_assoc L X (own ∷ (Z ++ Y)))
 
   row_with : (ms : List ℕ) → row t (ls ++ with_group b ms rs) ≡ row t ls ++ (flat_map (placed_in t (value_in t b)) ms ++ row t rs)
-  row_with [] = joined_append (row_of t) ls rs
-  row_with (x ∷ ms) = joined_append (row_of t) ls (group b (x ∷ ms) ∷ rs)
+  row_with [] = flat_map-append (row_of t) ls rs
+  row_with (x ∷ ms) = flat_map-append (row_of t) ls (group b (x ∷ ms) ∷ rs)
 
   pub row_rest : row t ((ls ++ with_group b (xs ++ zs) []) ++ rs) ≡ lower_part ++ upper_part
   row_rest =
@@ -68,7 +69,7 @@ module _ {T : Type 0} (t : List (Place T)) (s : Lists) (used total : ℕ) (ls : 
       let X = flat_map E xs in
       let Z = flat_map E zs in
       let Y = row t rs in
-      ap (row t) (parts ls b (xs ++ zs) rs) ∙ row_with (xs ++ zs) ∙ ap (λ (r : List (Placed T)). L ++ (r ++ Y)) (joined_append E xs zs)
+      ap (row t) (parts ls b (xs ++ zs) rs) ∙ row_with (xs ++ zs) ∙ ap (λ (r : List (Placed T)). L ++ (r ++ Y)) (flat_map-append E xs zs)
       ∙ ap (λ (r : List (Placed T)). L ++ r) (append_assoc X Z Y) ∙ sym (append_assoc L X (Z ++ Y))
 
   lower_clear : Each (λ e. e.place ≡ p → ⊥) lower_part
@@ -101,7 +102,7 @@ module _ {T : Type 0} (t : List (Place T)) (s : Lists) (used total : ℕ) (ls : 
       let us = crowd ls ++ xs in
       let vs = zs ++ crowd rs in
       let ec : crowd (ls ++ g ∷ rs) ≡ us ++ p ∷ vs =
-      joined_append (λ k. k.members) ls (g ∷ rs) ∙ ap (λ (r : List ℕ). crowd ls ++ r) (append_assoc xs (p ∷ zs) (crowd rs)) ∙ sym (append_assoc (crowd ls) xs (p ∷ vs)) in
+      flat_map-append (λ k. k.members) ls (g ∷ rs) ∙ ap (λ (r : List ℕ). crowd ls ++ r) (append_assoc xs (p ∷ zs) (crowd rs)) ∙ sym (append_assoc (crowd ls) xs (p ∷ vs)) in
       let a : Apart (us ++ p ∷ vs) = rw (← ec) (crowd_apart t (ls ++ g ∷ rs) h.full.buckets.list.apart h.full.groups) in
       let e₁ : before p (crowd (ls ++ g ∷ rs)) ≡ last_or None us = ap (before p) ec ∙ before_mid p us vs (cross_first us p vs (apart_cross us (p ∷ vs) a)) (apart_right us (p ∷ vs) a).0 in
       let last : ℕ → Option ℕ = λ i. (members_in t i).last in

@@ -1,9 +1,9 @@
 -- What a table that stands shows of its placed row: the number of entries, the ends, the entry at a place, the place below.
 use Rattle.std.proofs.Common.{◌≡◌, ℕ, zero, suc, ◌-◌, ◌<◌, ◌≤◌, eqb, List, [], ◌∷◌, ◌++◌, length, Some, None, sym, refl, ap, ◌∙◌}
+use Rattle.std.proofs.lemmas.Option.{same_Some}
 use Rattle.std.proofs.lemmas.List.{length-map}
 use Rattle.std.proofs.lemmas.Bool.{eqb-true, eq-eqb, cond_both, cond-true}
 use Rattle.links.specs.Chains.{Apart}
-use Rattle.links.proofs.Chains.{some_inj}
 use Rattle.table.specs.declared.place.Place.{Place}
 use Rattle.table.specs.declared.lists.Lists.{Lists}
 use Rattle.table.specs.Placed.{Placed, places, at_place, placed_entry, nth_entry, place_at, place_below, nth, before}
@@ -19,7 +19,7 @@ use Rattle.table.proofs.Seats.{own_entry_placed, own_lower}
 -- An entry's place leads to the entry, where no place comes twice.
 entry_found : {T : Type 0} (row : List (Placed T)) (i p : ℕ) → Apart (places row) → place_at row i ≡ Some p → placed_entry (at_place p row) ≡ nth_entry row i
 entry_found [] i p a e = refl
-entry_found (x ∷ row) zero p a e = ap placed_entry (cond-true (eqb p x.place) (Some x) (at_place p row) (eq-eqb p x.place (sym (some_inj x.place p e))))
+entry_found (x ∷ row) zero p a e = ap placed_entry (cond-true (eqb p x.place) (Some x) (at_place p row) (eq-eqb p x.place (sym (same_Some x.place p e))))
 entry_found (x ∷ row) (suc i) p a e =
     cond_both (eqb p x.place) (Some x) (at_place p row) (λ r. placed_entry r ≡ nth_entry row i) (λ h. absurd (nth_off x.place (places row) i p a.0 e (eqb-true p x.place h)))
     (λ h. entry_found row i p a.1 e)

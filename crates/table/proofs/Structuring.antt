@@ -70,7 +70,7 @@ module _ {T : Type 0} (t : List (Place T)) where
               rw b (each_bucket (λ i cs. Chain (next_in counter_links t) (prev_in counter_links t) None cs None) gs hs few (All-weaker (Holds t) (λ g. Chain (next_in counter_links t) (prev_in counter_links t) None g.members None) (λ g x. x.list.list.chain) gs hs));
           counter_ends = rw b (each_bucket (λ i cs. (members_in t i).last ≡ last_or None cs) gs hs few (All-weaker (Holds t) (λ g. (members_in t g.at).last ≡ last_or None g.members) (λ g x. x.list.stops) gs hs));
           owned = rw b (each_bucket (λ i cs. Each (λ x. owner_in t x ≡ i) cs) gs hs few (All-weaker (Holds t) (λ g. Each (λ x. owner_in t x ≡ g.at) g.members) (λ g x. x.mine) gs hs));
-          hung = λ i. ap (times i) (places_are t s used total gs fs h) ∙ covers used (crowd gs) (places_apart t s used total gs fs h) (crowd_within used gs h.inside) (c ∙ q) i;
+          attached = λ i. ap (times i) (places_are t s used total gs fs h) ∙ covers used (crowd gs) (places_apart t s used total gs fs h) (crowd_within used gs h.inside) (c ∙ q) i;
           spare = λ i. rw (b, f) (covers (length t) (ats gs ++ fs) buckets_apart (All-append (λ x. x < length t) (ats gs) fs h.full.buckets.list.within h.full.unused.list.within) all i);
           under = rowed;
         }

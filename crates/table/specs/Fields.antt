@@ -2,7 +2,8 @@
 use Rattle.std.specs.Prelude.{ℕ, List, [], ◌∷◌, None}
 use Rattle.links.specs.declared.ends.Ends.{Ends}
 use Rattle.links.specs.Tables.{read}
-use Rattle.links.specs.Kinds.{Accessors}
+use Rattle.links.specs.declared.neighbours.Neighbours.{Neighbours}
+use Rattle.links.specs.Kinds.{Accessors, in_part}
 use Rattle.table.specs.declared.place.Place.{Place}
 use Rattle.table.specs.declared.place.Counter.{Counter}
 use Rattle.table.specs.declared.place.Bucket.{Bucket}
@@ -12,12 +13,16 @@ use Rattle.table.specs.Placed.{Placed, put}
 abbrev pub no_ends : Ends
 no_ends = record { first = None; last = None }
 
+-- The neighbours of a place that is in no list.
+abbrev pub no_neighbours : Neighbours
+no_neighbours = record { next = None; prev = None }
+
 module _ {T : Type 0} where
   abbrev pub vacant_place : T → Place T
   vacant_place x =
       record {
-        counter = record { item = x; error = 0; bucket = 0; prev = None; next = None };
-        bucket = record { value = 0; members = no_ends; prev = None; next = None };
+        counter = record { item = x; error = 0; bucket = 0; beside = no_neighbours };
+        bucket = record { value = 0; members = no_ends; beside = no_neighbours };
       }
 
   -- ---- places with a counter or a bucket changed
@@ -30,47 +35,35 @@ module _ {T : Type 0} where
 
   -- The counter's links, and the bucket's.
   abbrev pub counter_links : Accessors (Place T)
-  counter_links =
-      record {
-        next = λ p. p.counter.next;
-        prev = λ p. p.counter.prev;
-        put_next = λ v p. on_counter (λ c. record { item = c.item; error = c.error; bucket = c.bucket; prev = c.prev; next = v }) p;
-        put_prev = λ v p. on_counter (λ c. record { item = c.item; error = c.error; bucket = c.bucket; prev = v; next = c.next }) p;
-      }
+  counter_links = in_part (λ p. p.counter.beside) (λ f. on_counter (λ c. record { item = c.item; error = c.error; bucket = c.bucket; beside = f c.beside }))
 
   abbrev pub bucket_links : Accessors (Place T)
-  bucket_links =
-      record {
-        next = λ p. p.bucket.next;
-        prev = λ p. p.bucket.prev;
-        put_next = λ v p. on_bucket (λ b. record { value = b.value; members = b.members; prev = b.prev; next = v }) p;
-        put_prev = λ v p. on_bucket (λ b. record { value = b.value; members = b.members; prev = v; next = b.next }) p;
-      }
+  bucket_links = in_part (λ p. p.bucket.beside) (λ f. on_bucket (λ b. record { value = b.value; members = b.members; beside = f b.beside }))
 
-  -- The bucket that a counter hangs in.
+  -- The bucket that a counter is in.
   abbrev pub owner_of : Place T → ℕ
   owner_of p = p.counter.bucket
 
   abbrev pub with_owner : ℕ → Place T → Place T
-  with_owner b p = on_counter (λ c. record { item = c.item; error = c.error; bucket = b; prev = c.prev; next = c.next }) p
+  with_owner b p = on_counter (λ c. record { item = c.item; error = c.error; bucket = b; beside = c.beside }) p
 
   -- A counter made one for an item.
   abbrev pub labelled : T → ℕ → Place T → Place T
-  labelled x e p = on_counter (λ c. record { item = x; error = e; bucket = c.bucket; prev = c.prev; next = c.next }) p
+  labelled x e p = on_counter (λ c. record { item = x; error = e; bucket = c.bucket; beside = c.beside }) p
 
   -- The ends of the list of a bucket's counters, and their count.
   abbrev pub members_of : Place T → Ends
   members_of p = p.bucket.members
 
   abbrev pub with_members : Ends → Place T → Place T
-  with_members e p = on_bucket (λ b. record { value = b.value; members = e; prev = b.prev; next = b.next }) p
+  with_members e p = on_bucket (λ b. record { value = b.value; members = e; beside = b.beside }) p
 
   abbrev pub value_of : Place T → ℕ
   value_of p = p.bucket.value
 
   -- A bucket made one for counters of the count v, with none in it.
   abbrev pub emptied : ℕ → Place T → Place T
-  emptied v p = on_bucket (λ b. record { value = v; members = no_ends; prev = b.prev; next = b.next }) p
+  emptied v p = on_bucket (λ b. record { value = v; members = no_ends; beside = b.beside }) p
 
   -- ---- the same in a table
 

@@ -1,6 +1,6 @@
 -- What the moves of counters and buckets do: the table after each, and what it then stands for. In all of them t and s
 -- are the table and the ends of its lists before, t' and s' those after.
-use Rattle.std.specs.Prelude.{◌≡◌, ℕ, List, [], ◌∷◌, ◌++◌, length, Some, None, Option, ◌≢◌}
+use Rattle.std.specs.Prelude.{◌≡◌, ℕ, Bool, false, ◌==◌, List, [], ◌∷◌, ◌++◌, length, Some, None, Option, ◌≢◌}
 use Rattle.links.specs.Tables.{edit}
 use Rattle.links.specs.Chains.{first_or, last_or}
 use Rattle.links.specs.Lists.{next_in, prev_in, unlinking, linking, ends_out, ends_in}
@@ -28,10 +28,17 @@ module _ {T : Type 0} where
   pulled_from b c t = edit (with_members (ends_out counter_links t c (members_in t b))) b (unlinking counter_links c t)
 
   -- The counter c is at the end of the list of the bucket b.
-  abbrev pub hung_in : ℕ → ℕ → List (Place T) → List (Place T)
-  hung_in b c t =
+  abbrev pub attached_in : ℕ → ℕ → List (Place T) → List (Place T)
+  attached_in b c t =
       let ends = members_in t b in
       edit (with_members (ends_in ends.last None c ends)) b (edit (with_owner b) c (linking counter_links ends.last None c t))
+
+  -- The bucket b is out of the list of those in use, and at the end of the free ones.
+  abbrev pub retired_in : Lists → ℕ → List (Place T) → List (Place T)
+  retired_in s b t = linking bucket_links s.free.last None b (unlinking bucket_links b t)
+
+  abbrev pub retired_lists : List (Place T) → ℕ → Lists → Lists
+  retired_lists t b s = record { main = ends_out bucket_links t b s.main; free = ends_in s.free.last None b s.free }
 
   -- The bucket b, empty and for the count v, is in between those that the links a and z lead to.
   abbrev pub added_in : Option ℕ → Option ℕ → ℕ → ℕ → List (Place T) → List (Place T)
@@ -63,11 +70,6 @@ module _ {T : Type 0} where
 
   -- ---- what a move does to the groups
 
-  -- The bucket b, which has no counter, goes to the free ones.
-  pub record Retired (t t' : List (Place T)) (s s' : Lists) (b : ℕ) : Type 0 where
-    pub quiet : Quiet t t'
-    pub out : (ls rs : List Group) (fs : List ℕ) → Full t s (ls ++ group b [] ∷ rs) fs → Full t' s' (ls ++ rs) (fs ++ b ∷ [])
-
   -- The bucket b goes to the free ones if it has no counter; a leads to the bucket that then comes before its place.
   pub record Tidied (t t' : List (Place T)) (s s' : Lists) (b : ℕ) (a : Option ℕ) : Type 0 where
     pub quiet : Quiet t t'
@@ -92,8 +94,8 @@ module _ {T : Type 0} where
     pub same : (ls rs : List Group) (b : ℕ) (ms fs : List ℕ) → Full t s (ls ++ group b ms ∷ rs) fs → a ≡ last_or None (ats ls) → value_in t b ≡ v → (r ≡ Some b) × Full t' s' (ls ++ group b ms ∷ rs) fs × Values t t'
     pub fresh : (ls rs : List Group) (b : ℕ) (fs : List ℕ) → Full t s (ls ++ rs) (b ∷ fs) → a ≡ last_or None (ats ls) → Differs t v rs → (r ≡ Some b) × Full t' s' (ls ++ group b [] ∷ rs) fs × Revalued t t' b v
 
-  -- The counter c is hung up there, behind those that the bucket has.
-  pub record HungUp (t t' : List (Place T)) (s s' : Lists) (a : Option ℕ) (v c : ℕ) : Type 0 where
+  -- The counter c is attached there, behind those that the bucket has.
+  pub record Attached (t t' : List (Place T)) (s s' : Lists) (a : Option ℕ) (v c : ℕ) : Type 0 where
     pub size : length t' ≡ length t
     pub entries : Entries t t'
     pub same : (ls rs : List Group) (b : ℕ) (ms fs : List ℕ) → Full t s (ls ++ group b ms ∷ rs) fs → Loose t (ls ++ group b ms ∷ rs) c → a ≡ last_or None (ats ls) → value_in t b ≡ v → Full t' s' (ls ++ group b (ms ++ c ∷ []) ∷ rs) fs × Values t t'
@@ -105,6 +107,11 @@ module _ {T : Type 0} where
   abbrev pub bucket_after_lem : List (Place T) → Option ℕ → Option ℕ → Option ℕ
   bucket_after_lem t first None = first
   bucket_after_lem t first (Some b) = next_in bucket_links t b
+
+  -- Whether the link leads to a bucket of the count v.
+  abbrev pub has_count_lem : List (Place T) → ℕ → Option ℕ → Bool
+  has_count_lem t v None = false
+  has_count_lem t v (Some b) = value_in t b == v
 
   -- The counter c as an entry, at the count of the bucket that it names.
   abbrev pub own_entry : List (Place T) → ℕ → Option (Entry T)

@@ -31,10 +31,10 @@ pub record Structure {T : Type 0} (t : List (Place T)) (s : Lists) (used total :
   pub free_end : s.free.last ≡ last_or None (buckets t s.free.first)
   pub counters_chained : Each (λ b. Chain (next_in counter_links t) (prev_in counter_links t) None (counters t b) None) (buckets t s.main.first)
   pub counter_ends : Each (λ b. (members_in t b).last ≡ last_or None (counters t b)) (buckets t s.main.first)
-  -- Every counter names the bucket that it hangs in.
+  -- Every counter names the bucket that it is in.
   pub owned : Each (λ b. Each (λ c. owner_in t c ≡ b) (counters t b)) (buckets t s.main.first)
-  -- The counter of every place in use hangs once, and no other; every bucket is in use or free, once.
-  pub hung : (c : ℕ) → times c (places (placed_row t s.main.first)) ≡ once used c
+  -- The counter of every place in use is attached once, and no other; every bucket is in use or free, once.
+  pub attached : (c : ℕ) → times c (places (placed_row t s.main.first)) ≡ once used c
   pub spare : (b : ℕ) → times b (buckets t s.main.first ++ buckets t s.free.first) ≡ once (length t) b
   -- No count is above the number of hits.
   pub under : Each (λ e. e.entry.count ≤ total) (placed_row t s.main.first)

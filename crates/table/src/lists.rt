@@ -5,6 +5,7 @@ ghost use Rattle.std.proofs.Common.{rules};
 use crate::place::Place;
 use links::ends::Ends;
 use links::kind::Links;
+use links::neighbours::Side;
 
 /// The list of the counters of one bucket.
 pub struct CounterLinks;
@@ -14,20 +15,12 @@ impl<T> Links<Place<T>> for CounterLinks {
 
     ghost lawful = { Prim.search rules };
 
-    fn next(place: &Place<T>) -> Option<u16> {
-        place.counter.next
+    fn link(place: &Place<T>, side: Side) -> Option<u16> {
+        place.counter.beside.on(side)
     }
 
-    fn prev(place: &Place<T>) -> Option<u16> {
-        place.counter.prev
-    }
-
-    fn set_next(place: &mut Place<T>, link: Option<u16>) {
-        place.counter.next = link;
-    }
-
-    fn set_prev(place: &mut Place<T>, link: Option<u16>) {
-        place.counter.prev = link;
+    fn set_link(place: &mut Place<T>, side: Side, link: Option<u16>) {
+        place.counter.beside.set(side, link);
     }
 }
 
@@ -39,25 +32,17 @@ impl<T> Links<Place<T>> for BucketLinks {
 
     ghost lawful = { Prim.search rules };
 
-    fn next(place: &Place<T>) -> Option<u16> {
-        place.bucket.next
+    fn link(place: &Place<T>, side: Side) -> Option<u16> {
+        place.bucket.beside.on(side)
     }
 
-    fn prev(place: &Place<T>) -> Option<u16> {
-        place.bucket.prev
-    }
-
-    fn set_next(place: &mut Place<T>, link: Option<u16>) {
-        place.bucket.next = link;
-    }
-
-    fn set_prev(place: &mut Place<T>, link: Option<u16>) {
-        place.bucket.prev = link;
+    fn set_link(place: &mut Place<T>, side: Side, link: Option<u16>) {
+        place.bucket.beside.set(side, link);
     }
 }
 
 /// The ends of the list of the buckets in use, `main`, and of that of the free ones.
-#[derive(Clone, Copy)]
+#[derive(Clone, Copy, Debug, PartialEq, Eq, Default)]
 pub struct Lists {
     pub main: Ends,
     pub free: Ends,

@@ -3,209 +3,157 @@
 ghost use Rattle.std.specs.Prelude.{◌≡◌, ℕ, min, length};
 ghost use Rattle.links.specs.Tables.{edit};
 ghost use Rattle.links.specs.Lists.{Listed};
-ghost use Rattle.table.specs.Fields.{owner_in, value_in, bucket_links, labelled};
+ghost use Rattle.table.specs.Fields.{no_ends, owner_in, value_in, bucket_links, labelled};
 ghost use Rattle.table.specs.Groups.{below};
-ghost use Rattle.table.specs.Moves.{pulled_from, hung_in, added_in, bucket_after_lem, Retired, Tidied, TakenOut, Freshened, Targeted, HungUp};
+ghost use Rattle.table.specs.Moves.{pulled_from, attached_in, bucket_after_lem, has_count_lem, retired_in, retired_lists, Tidied, TakenOut, Freshened, Targeted, Attached};
 
-use crate::fields::{empty, members, owner, put_members, put_owner, value};
+use crate::Table;
+use crate::fields::{empty, label, put_members, put_owner};
 use crate::lists::{BucketLinks, CounterLinks, Lists};
 use crate::place::Place;
-use links::ends::Ends;
-use links::lists::{append, link, next_of, prev_of, unlink};
+use links::lists::neighbour;
+use links::neighbours::{Neighbours, Side};
 
-/// A link to a bucket, and the ends of the lists of buckets as they then are.
-#[derive(Clone, Copy)]
-pub struct Found {
-    pub bucket: Option<u16>,
-    pub lists: Lists,
-}
-
-// Takes the counter at `at` out of its bucket's list, and answers the bucket.
-fn pull<T>(places: &mut [Place<T>], at: u16) -> u16
-    ensures bucket { result ≡ owner_in places.old at }
-    ensures table { places.new ≡ pulled_from result at places.old }
-{
-    let bucket = owner(places, at);
-    let ends = members(places, bucket);
-    let ends = unlink::<Place<T>, CounterLinks>(places, ends, at);
-    put_members(places, bucket, ends);
-    bucket
-}
-
-// Gives the bucket, which has no counter, back to the free ones.
-fn retire<T>(places: &mut [Place<T>], lists: Lists, bucket: u16) -> Lists
-    ensures { Retired places.old places.new lists result bucket }
-{
-    let main = unlink::<Place<T>, BucketLinks>(places, lists.main, bucket);
-    let free = append::<Place<T>, BucketLinks>(places, lists.free, bucket);
-    Lists { main, free }
-}
-
-// Gives the bucket back if it has no counter. The link answered leads to the bucket that then comes before its place.
-fn tidy<T>(places: &mut [Place<T>], lists: Lists, bucket: u16) -> Found
-    ensures { Tidied places.old places.new lists result.lists bucket result.bucket }
-{
-    match members(places, bucket).first {
-        None => {
-            let before = prev_of::<Place<T>, BucketLinks>(places, bucket);
-            let lists = retire(places, lists, bucket);
-            Found {
-                bucket: before,
-                lists,
-            }
-        }
-        Some(_) => Found {
-            bucket: Some(bucket),
-            lists,
-        },
-    }
-}
-
-/// What is left of a counter's old place once it is detached: the bucket before it, the count that it had, and the ends
-/// of the lists of buckets as they then are.
-#[derive(Clone, Copy)]
+/// What is left of a counter's old place once it is detached: the bucket before it, and the count that it had.
+#[derive(Clone, Copy, Debug, PartialEq, Eq)]
 pub struct Taken {
     pub count: u32,
     pub after: Option<u16>,
-    pub lists: Lists,
 }
 
-/// Takes the counter at `at` out of its bucket, and gives the bucket back if it is then empty.
-pub fn take<T>(places: &mut [Place<T>], lists: Lists, at: u16) -> Taken
-    ensures count { result.count ≡ value_in places.old (owner_in places.old at) }
-    ensures out { TakenOut places.old places.new lists result.lists at result.after }
-{
-    let bucket = pull(places, at);
-    let count = value(places, bucket);
-    let rest = tidy(places, lists, bucket);
-    Taken {
-        count,
-        after: rest.bucket,
-        lists: rest.lists,
+impl<'a, T> Table<'a, T> {
+    /// Makes every bucket that links can name a free one, whatever the places held.
+    pub fn new(places: &'a mut [Place<T>]) -> Table<'a, T>
+        ensures size { length result.places.now ≡ length places.old }
+        ensures main { result.lists.main ≡ no_ends }
+        ensures free { Listed bucket_links result.places.now (below (min (length places.old) 65536)) result.lists.free }
+    {
+        let mut lists = Lists::default();
+        for i in 0..places.len().min(65_536) {
+            lists.free.append::<Place<T>, BucketLinks>(places, i as u16);
+        }
+        Table { places, lists }
     }
-}
 
-// Takes a free bucket into use, for the count `count`, in between those that `before` and `after` lead to.
-fn freshen<T>(
-    places: &mut [Place<T>],
-    lists: Lists,
-    before: Option<u16>,
-    after: Option<u16>,
-    count: u32,
-) -> Found
-    ensures { Freshened places.old places.new lists result.lists before after count result.bucket }
-{
-    match lists.free.first {
-        None => Found {
-            bucket: None,
-            lists,
-        },
-        Some(bucket) => {
-            let free = unlink::<Place<T>, BucketLinks>(places, lists.free, bucket);
-            let main = link::<Place<T>, BucketLinks>(places, lists.main, before, after, bucket);
-            empty(places, bucket, count);
-            Found {
-                bucket: Some(bucket),
-                lists: Lists { main, free },
-            }
+    // Takes the counter at `at` out of its bucket's list, and answers the bucket.
+    fn pull(&mut self, at: u16) -> u16
+        ensures bucket { result ≡ owner_in self.old.places.now at }
+        ensures table { self.new.places.now ≡ pulled_from result at self.old.places.now }
+        ensures lists { self.new.lists ≡ self.old.lists }
+    {
+        let bucket = self.owner(at);
+        let mut ends = self.members(bucket);
+        ends.unlink::<Place<T>, CounterLinks>(self.places, at);
+        put_members(self.places, bucket, ends);
+        bucket
+    }
+
+    // Gives the bucket, which has no counter, back to the free ones.
+    fn retire(&mut self, bucket: u16)
+        ensures table { self.new.places.now ≡ retired_in self.old.lists bucket self.old.places.now }
+        ensures lists { self.new.lists ≡ retired_lists self.old.places.now bucket self.old.lists }
+    {
+        let Lists { main, free } = &mut self.lists;
+        main.unlink::<Place<T>, BucketLinks>(self.places, bucket);
+        free.append::<Place<T>, BucketLinks>(self.places, bucket);
+    }
+
+    // Gives the bucket back if it has no counter. The link answered leads to the bucket that then comes before its place.
+    fn tidy(&mut self, bucket: u16) -> Option<u16>
+        ensures { Tidied self.old.places.now self.new.places.now self.old.lists self.new.lists bucket result }
+    {
+        if self.members(bucket).first.is_some() {
+            return Some(bucket);
+        }
+        let before = self.bucket_before(bucket);
+        self.retire(bucket);
+        before
+    }
+
+    /// Takes the counter at `at` out of its bucket, and gives the bucket back if it is then empty.
+    pub fn take(&mut self, at: u16) -> Taken
+        ensures count { result.count ≡ value_in self.old.places.now (owner_in self.old.places.now at) }
+        ensures out { TakenOut self.old.places.now self.new.places.now self.old.lists self.new.lists at result.after }
+    {
+        let bucket = self.pull(at);
+        let count = self.value(bucket);
+        let after = self.tidy(bucket);
+        Taken { count, after }
+    }
+
+    // Takes a free bucket into use, for the count `count`, in between two neighbours.
+    fn freshen(&mut self, beside: Neighbours, count: u32) -> Option<u16>
+        ensures { Freshened self.old.places.now self.new.places.now self.old.lists self.new.lists beside.prev beside.next count result }
+    {
+        let bucket = self.lists.free.first?;
+        let Lists { main, free } = &mut self.lists;
+        free.unlink::<Place<T>, BucketLinks>(self.places, bucket);
+        main.link::<Place<T>, BucketLinks>(self.places, beside, bucket);
+        empty(self.places, bucket, count);
+        Some(bucket)
+    }
+
+    // The bucket after the one that `before` leads to, or the first of all.
+    fn bucket_after(&self, before: Option<u16>) -> Option<u16>
+        ensures { result ≡ bucket_after_lem self.now.places.now self.now.lists.main.first before }
+    {
+        before.map_or(self.lists.main.first, |bucket| {
+            neighbour::<Place<T>, BucketLinks>(self.places, Side::Next, bucket)
+        })
+    }
+
+    // Whether a link leads to a bucket for the count `count`.
+    fn has_count(&self, bucket: Option<u16>, count: u32) -> bool
+        ensures { result ≡ has_count_lem self.now.places.now count bucket }
+    {
+        matches!(bucket, Some(bucket) if self.value(bucket) == count)
+    }
+
+    // The bucket for the count `count` behind the one that `before` leads to: the next one if it has that count, else a
+    // free one that is put in between.
+    fn target(&mut self, before: Option<u16>, count: u32) -> Option<u16>
+        ensures { Targeted self.old.places.now self.new.places.now self.old.lists self.new.lists before count result }
+    {
+        let after = self.bucket_after(before);
+        if self.has_count(after, count) {
+            after
+        } else {
+            let beside = Neighbours {
+                prev: before,
+                next: after,
+            };
+            self.freshen(beside, count)
+        }
+    }
+
+    // Puts the counter at `at`, which is in no bucket, at the end of the bucket's list.
+    fn attach_to(&mut self, bucket: u16, at: u16)
+        ensures table { self.new.places.now ≡ attached_in bucket at self.old.places.now }
+        ensures lists { self.new.lists ≡ self.old.lists }
+    {
+        let mut ends = self.members(bucket);
+        ends.append::<Place<T>, CounterLinks>(self.places, at);
+        put_owner(self.places, at, bucket);
+        put_members(self.places, bucket, ends);
+    }
+
+    /// Attaches the counter at `at`, which is in no bucket, behind all of the count `count`: in the bucket after the one
+    /// that `before` leads to if that has this count, else in a free one that is put in between.
+    pub fn attach(&mut self, before: Option<u16>, count: u32, at: u16)
+        ensures { Attached self.old.places.now self.new.places.now self.old.lists self.new.lists before count at }
+    {
+        if let Some(bucket) = self.target(before, count) {
+            self.attach_to(bucket, at);
         }
     }
 }
 
-// The bucket after the one that `before` leads to, or the first of all.
-fn bucket_after<T>(places: &[Place<T>], main: Ends, before: Option<u16>) -> Option<u16>
-    ensures { result ≡ bucket_after_lem places.now main.first before }
-{
-    match before {
-        None => main.first,
-        Some(bucket) => next_of::<Place<T>, BucketLinks>(places, bucket),
+impl<'a, T: Copy> Table<'a, T> {
+    /// Makes the counter at `at` one for `item`, whose count may be too high by `error`.
+    pub fn relabel(&mut self, at: u16, item: T, error: u32)
+        ensures places { self.new.places.now ≡ edit (labelled item error) at self.old.places.now }
+        ensures lists { self.new.lists ≡ self.old.lists }
+    {
+        label(self.places, at, item, error);
     }
-}
-
-// The bucket for the count `count` behind the one that `before` leads to: the next one if it has that count, else a free
-// one that is put in between.
-fn target<T>(places: &mut [Place<T>], lists: Lists, before: Option<u16>, count: u32) -> Found
-    ensures { Targeted places.old places.new lists result.lists before count result.bucket }
-{
-    let after = bucket_after(places, lists.main, before);
-    match after {
-        Some(bucket) => {
-            if value(places, bucket) == count {
-                Found {
-                    bucket: after,
-                    lists,
-                }
-            } else {
-                freshen(places, lists, before, after, count)
-            }
-        }
-        None => freshen(places, lists, before, after, count),
-    }
-}
-
-// Puts the counter at `at`, which is in no bucket, at the end of the bucket's list.
-fn hang<T>(places: &mut [Place<T>], bucket: u16, at: u16)
-    ensures { places.new ≡ hung_in bucket at places.old }
-{
-    let ends = members(places, bucket);
-    let ends = append::<Place<T>, CounterLinks>(places, ends, at);
-    put_owner(places, at, bucket);
-    put_members(places, bucket, ends);
-}
-
-/// Hangs the counter at `at`, which is in no bucket, up behind all of the count `count`: in the bucket after the one that
-/// `before` leads to if that has this count, else in a free one that is put in between.
-pub fn hang_up<T>(
-    places: &mut [Place<T>],
-    lists: Lists,
-    before: Option<u16>,
-    count: u32,
-    at: u16,
-) -> Lists
-    ensures { HungUp places.old places.new lists result before count at }
-{
-    let found = target(places, lists, before, count);
-    match found.bucket {
-        Some(bucket) => {
-            hang(places, bucket, at);
-            found.lists
-        }
-        None => found.lists,
-    }
-}
-
-/// Makes the counter at `at` one for `item`, whose count may be too high by `error`.
-pub fn relabel<T: Copy>(places: &mut [Place<T>], at: u16, item: T, error: u32)
-    ensures { places.new ≡ edit (labelled item error) at places.old }
-{
-    if (at as usize) < places.len() {
-        places[at as usize].counter.item = item;
-        places[at as usize].counter.error = error;
-    }
-}
-
-/// How many places there are, up to a limit.
-pub fn at_most<T>(places: &[Place<T>], limit: usize) -> usize
-    ensures { result ≡ min (length places.now) limit }
-{
-    if places.len() < limit {
-        places.len()
-    } else {
-        limit
-    }
-}
-
-/// Makes every bucket that links can name a free one, whatever the table held, and answers the ends of their list.
-pub fn free_all<T>(places: &mut [Place<T>]) -> Ends
-    ensures size { length places.new ≡ length places.old }
-    ensures list { Listed bucket_links places.new (below (min (length places.old) 65536)) result }
-{
-    let mut free = Ends {
-        first: None,
-        last: None,
-    };
-    for i in 0..at_most(places, 65_536) {
-        free = append::<Place<T>, BucketLinks>(places, free, i as u16);
-    }
-    free
 }

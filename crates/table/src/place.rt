@@ -3,27 +3,26 @@ ghost use Rattle.std.specs.Prelude.{◌≡◌};
 ghost use Rattle.table.specs.Fields.{vacant_place};
 
 use links::ends::Ends;
+use links::neighbours::Neighbours;
 
-// A counter: what it counts, by how much its count may be too high, the bucket that it hangs in, and its neighbours there.
-#[derive(Clone, Copy)]
+// A counter: what it counts, by how much its count may be too high, the bucket that it is in, and its neighbours there.
+#[derive(Clone, Copy, Debug, PartialEq, Eq)]
 pub struct Counter<T> {
     pub(crate) item: T,
     pub(crate) error: u32,
     pub(crate) bucket: u16,
-    pub(crate) prev: Option<u16>,
-    pub(crate) next: Option<u16>,
+    pub(crate) beside: Neighbours,
 }
 
 // A bucket: the count of its counters, the ends of their list, and its neighbours among the buckets in use or the free ones.
-#[derive(Clone, Copy)]
+#[derive(Clone, Copy, Debug, PartialEq, Eq, Default)]
 pub struct Bucket {
     pub(crate) value: u32,
     pub(crate) members: Ends,
-    pub(crate) prev: Option<u16>,
-    pub(crate) next: Option<u16>,
+    pub(crate) beside: Neighbours,
 }
 
-#[derive(Clone, Copy)]
+#[derive(Clone, Copy, Debug, PartialEq, Eq)]
 pub struct Place<T> {
     pub(crate) counter: Counter<T>,
     pub(crate) bucket: Bucket,
@@ -34,24 +33,14 @@ impl<T: Copy> Place<T> {
     pub fn vacant(item: T) -> Place<T>
         ensures { result ≡ vacant_place item }
     {
-        let members = Ends {
-            first: None,
-            last: None,
-        };
         Place {
             counter: Counter {
                 item,
                 error: 0,
                 bucket: 0,
-                prev: None,
-                next: None,
+                beside: Neighbours::default(),
             },
-            bucket: Bucket {
-                value: 0,
-                members,
-                prev: None,
-                next: None,
-            },
+            bucket: Bucket::default(),
         }
     }
 }

@@ -11,19 +11,19 @@ use items::article::Article;
 use items::fault::ArticleFault;
 
 // Why a code was not taken: it makes no article, or the finder says no.
-#[derive(Clone, Copy)]
+#[derive(Clone, Copy, Debug, PartialEq, Eq, Hash)]
 pub enum Trouble {
     Spoiled(ArticleFault),
     Refused(Refusal),
 }
 
-impl Trouble {
-    pub fn number(self) -> u8
-        ensures { result ≡ trouble_number self }
-    {
-        match self {
-            Trouble::Spoiled(fault) => fault.number(),
-            Trouble::Refused(refusal) => refusal.number(),
+impl From<Trouble> for u8 {
+    ghost from_gives = { λ trouble number. number ≡ trouble_number trouble };
+
+    fn from(trouble: Trouble) -> u8 {
+        match trouble {
+            Trouble::Spoiled(fault) => u8::from(fault),
+            Trouble::Refused(refusal) => u8::from(refusal),
         }
     }
 }

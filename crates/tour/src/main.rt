@@ -34,28 +34,23 @@ const DELIVERY: [&str; 9] = [
     "80614141123458",
 ];
 
+// The handle that prints goes beside what is told of, as it does everywhere: a type for both would be opened in each line.
 fn tell_check_in<F: Finder<Article>>(
-    rt: &HostRuntime,
+    rt: &impl Print,
     finder: &mut F,
     code: &str,
     place: usize,
-) -> io::Result<bool> {
+) -> io::Result<()> {
     match check_in(finder, code.as_bytes(), place) {
-        Ok(article) => {
-            println!(rt;
-                "  {code:<14}  an article of {} digits, entered at place {place}",
-                article.width()
-            )?;
-            Ok(true)
-        }
-        Err(trouble) => {
-            println!(rt; "  {code:<14}  {trouble}")?;
-            Ok(false)
-        }
+        Ok(article) => println!(rt;
+            "  {code:<14}  an article of {} digits, entered at place {place}",
+            article.width()
+        ),
+        Err(trouble) => println!(rt; "  {code:<14}  {trouble}"),
     }
 }
 
-fn tell_look_up<F: Finder<Article>>(rt: &HostRuntime, finder: &F, code: &str) -> io::Result<()> {
+fn tell_look_up<F: Finder<Article>>(rt: &impl Print, finder: &F, code: &str) -> io::Result<()> {
     match look_up(finder, code.as_bytes()) {
         Ok(Some(place)) => println!(rt; "  {code:<14}  is at place {place}"),
         Ok(None) => println!(rt; "  {code:<14}  is not held"),
@@ -64,7 +59,7 @@ fn tell_look_up<F: Finder<Article>>(rt: &HostRuntime, finder: &F, code: &str) ->
 }
 
 fn tell_take_out<F: Finder<Article>>(
-    rt: &HostRuntime,
+    rt: &impl Print,
     finder: &mut F,
     code: &str,
 ) -> io::Result<()> {
@@ -74,25 +69,23 @@ fn tell_take_out<F: Finder<Article>>(
     }
 }
 
-// The number of each code's refusal, and 0 for a code that is taken.
-fn answers<F: Finder<Article>>(finder: &mut F) -> [u8; 9] {
-    let mut numbers = [0u8; 9];
-    for (i, code) in DELIVERY.iter().enumerate() {
-        if let Err(trouble) = check_in(finder, code.as_bytes(), i) {
-            numbers[i] = trouble.number();
-        }
+// What was wrong with each code, if anything.
+fn troubles<F: Finder<Article>>(finder: &mut F) -> [Option<Trouble>; 9] {
+    let mut troubles = [None; 9];
+    for (place, (code, trouble)) in DELIVERY.iter().zip(troubles.iter_mut()).enumerate() {
+        *trouble = check_in(finder, code.as_bytes(), place).err();
     }
-    numbers
+    troubles
 }
 
-fn compare(rt: &HostRuntime, filler: Article) -> io::Result<()> {
+fn compare(rt: &impl Print, filler: Article) -> io::Result<()> {
     let mut bindings = [Binding {
         item: filler,
         place: 0,
     }; 4];
-    let mut slots = [Slot::vacant(filler); 4];
-    let straight = answers(&mut StraightFinder::over(&mut bindings));
-    let hashed = answers(&mut HashedFinder::over(&mut slots));
+    let mut slots = [Slot::vacant(); 4];
+    let straight = troubles(&mut StraightFinder::over(&mut bindings));
+    let hashed = troubles(&mut HashedFinder::over(&mut slots));
     println!(rt; "")?;
     if straight == hashed {
         println!(rt; "Through a hashed finder, every code of the delivery gets the same answer.")
@@ -101,17 +94,16 @@ fn compare(rt: &HostRuntime, filler: Article) -> io::Result<()> {
     }
 }
 
-fn receive<F: Finder<Article>>(rt: &HostRuntime, finder: &mut F) -> io::Result<()> {
+fn receive<F: Finder<Article>>(rt: &impl Print, finder: &mut F) -> io::Result<()> {
     println!(rt;
         "A delivery of article codes is checked in. The finder has room for {}.",
         finder.capacity()
     )?;
-    let mut place = 0usize;
     for code in DELIVERY {
-        if tell_check_in(rt, finder, code, place)? {
-            place = place.saturating_add(1);
-        }
+        let place = finder.held();
+        tell_check_in(rt, finder, code, place)?;
     }
+    let next = finder.held();
     println!(rt; "")?;
     println!(rt; "The till scans some of them in other widths.")?;
     tell_look_up(rt, finder, "04006381333931")?;
@@ -121,7 +113,7 @@ fn receive<F: Finder<Article>>(rt: &HostRuntime, finder: &mut F) -> io::Result<(
     println!(rt; "One is sold out and leaves; its slot is used again.")?;
     tell_take_out(rt, finder, "00000096385074")?;
     tell_take_out(rt, finder, "96385074")?;
-    tell_check_in(rt, finder, "80614141123458", place)?;
+    tell_check_in(rt, finder, "80614141123458", next)?;
     println!(rt; "")?;
     println!(rt;
         "Held at the end: {} of the {} that fit.",
@@ -130,7 +122,7 @@ fn receive<F: Finder<Article>>(rt: &HostRuntime, finder: &mut F) -> io::Result<(
     )
 }
 
-fn count(rt: &HostRuntime) -> io::Result<()> {
+fn count(rt: &impl Print) -> io::Result<()> {
     let filler = Label { number: 0 };
     let mut slots = [Binding {
         item: filler,
@@ -145,7 +137,7 @@ fn count(rt: &HostRuntime) -> io::Result<()> {
     }; 4];
     let mut finder = StraightFinder::over(&mut slots);
     if let Err(refusal) = check_open(places.len(), &finder) {
-        return println!(rt; "no summary: refused with {}", refusal.number());
+        return println!(rt; "no summary: refused with {}", u8::from(refusal));
     }
     let mut summary = open(&mut places);
     count_morning(rt, &mut summary, &mut finder, &mut lines)
@@ -161,7 +153,7 @@ fn main(rt: HostRuntime) -> io::Result<()> {
         place: 0,
     }; 4];
     if let Err(refusal) = check_slots(slots.len()) {
-        return println!(rt; "no finder: refused with {}", refusal.number());
+        return println!(rt; "no finder: refused with {}", u8::from(refusal));
     }
     let mut finder = StraightFinder::over(&mut slots);
     receive(&rt, &mut finder)?;

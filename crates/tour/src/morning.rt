@@ -13,8 +13,9 @@ const MORNING: [u32; 15] = [
 // How many positions are watched, and asked for at the end.
 const TOP: usize = 2;
 
+// The handle that prints goes beside what is told of, as it does everywhere: a type for both would be opened in each line.
 fn tell_redraw<S: Summary<Label>, F: Finder<Label>>(
-    rt: &HostRuntime,
+    rt: &impl Print,
     summary: &mut S,
     finder: &mut F,
     number: u32,
@@ -26,23 +27,23 @@ fn tell_redraw<S: Summary<Label>, F: Finder<Label>>(
         ),
         Ok((Some(_), None)) => println!(rt; "  label {number:<3}  enters the top {TOP}"),
         Ok((None, _)) => println!(rt; "  label {number}"),
-        Err(refusal) => println!(rt; "  label {number:<3}  refused with {}", refusal.number()),
+        Err(refusal) => println!(rt; "  label {number:<3}  refused with {}", u8::from(refusal)),
     }
 }
 
 fn tell_bracket<S: Summary<Label>, F: Finder<Label>>(
-    rt: &HostRuntime,
+    rt: &impl Print,
     summary: &S,
     finder: &F,
     number: u32,
 ) -> io::Result<()> {
     match summary.bracket(finder, &Label { number }) {
         Ok((lower, upper)) => println!(rt; "  label {number:<3}  {lower} to {upper} times"),
-        Err(refusal) => println!(rt; "  label {number:<3}  refused with {}", refusal.number()),
+        Err(refusal) => println!(rt; "  label {number:<3}  refused with {}", u8::from(refusal)),
     }
 }
 
-fn tell_line(rt: &HostRuntime, line: Line<Label>) -> io::Result<()> {
+fn tell_line(rt: &impl Print, line: Line<Label>) -> io::Result<()> {
     let number = line.item.number;
     let sure = if line.sure { ", sure" } else { "" };
     println!(rt;
@@ -52,7 +53,7 @@ fn tell_line(rt: &HostRuntime, line: Line<Label>) -> io::Result<()> {
 }
 
 fn tell_frequent<S: Summary<Label>>(
-    rt: &HostRuntime,
+    rt: &impl Print,
     summary: &S,
     lines: &mut [Line<Label>],
 ) -> io::Result<()> {
@@ -78,12 +79,12 @@ fn tell_frequent<S: Summary<Label>>(
             }
             Ok(())
         }
-        Err(refusal) => println!(rt; "Busy: refused with {}", refusal.number()),
+        Err(refusal) => println!(rt; "Busy: refused with {}", u8::from(refusal)),
     }
 }
 
 fn tell_top<S: Summary<Label>>(
-    rt: &HostRuntime,
+    rt: &impl Print,
     summary: &S,
     lines: &mut [Line<Label>],
 ) -> io::Result<()> {
@@ -109,12 +110,12 @@ fn tell_top<S: Summary<Label>>(
             }
             Ok(())
         }
-        Err(refusal) => println!(rt; "The top {TOP}: refused with {}", refusal.number()),
+        Err(refusal) => println!(rt; "The top {TOP}: refused with {}", u8::from(refusal)),
     }
 }
 
 pub(crate) fn count_morning<S: Summary<Label>, F: Finder<Label>>(
-    rt: &HostRuntime,
+    rt: &impl Print,
     summary: &mut S,
     finder: &mut F,
     lines: &mut [Line<Label>],

@@ -1,16 +1,8 @@
-// What the tour says of a refusal.
+// What the tour says of a code that was not taken. An article's fault has a text of its own; of a finder's refusal the
+// tour speaks itself, since a finder does not know that its items are articles.
 use crate::delivery::Trouble;
 use finders::refusal::Refusal;
-use items::fault::ArticleFault;
 use std::fmt;
-
-fn of_fault(fault: ArticleFault) -> &'static str {
-    match fault {
-        ArticleFault::WrongLength => "a code has 8, 12, 13 or 14 digits",
-        ArticleFault::NotADigit => "one of its characters is no digit",
-        ArticleFault::WrongCheckDigit => "its check digit is wrong",
-    }
-}
 
 fn of_refusal(refusal: Refusal) -> &'static str {
     match refusal {
@@ -23,19 +15,12 @@ fn of_refusal(refusal: Refusal) -> &'static str {
 
 impl fmt::Display for Trouble {
     fn fmt<W: fmt::Write>(&self, f: &mut fmt::Formatter<W>) -> fmt::Result {
+        let number = u8::from(*self);
         match *self {
-            Trouble::Spoiled(fault) => write!(
-                f,
-                "refused with {}: {}",
-                self.number(),
-                of_fault(fault)
-            ),
-            Trouble::Refused(refusal) => write!(
-                f,
-                "refused with {}: {}",
-                self.number(),
-                of_refusal(refusal)
-            ),
+            Trouble::Spoiled(fault) => write!(f, "refused with {number}: {fault}"),
+            Trouble::Refused(refusal) => {
+                write!(f, "refused with {number}: {}", of_refusal(refusal))
+            }
         }
     }
 }

@@ -16,10 +16,9 @@ const HITS: [u32; 12] = [7, 9, 7, 4, 8, 7, 65539, 9, 4, 4, 7, 8];
 
 // The number, count and error of each entry, by position, after the hits with three counters; or the refusal's number.
 fn row<F: Finder<Label>>(finder: &mut F) -> Result<[(u32, u32, u32); 3], u8> {
-    match count(finder) {
-        Ok(lines) => Ok([figures(lines[0]), figures(lines[1]), figures(lines[2])]),
-        Err(refusal) => Err(refusal.number()),
-    }
+    count(finder)
+        .map(|lines| lines.map(figures))
+        .map_err(u8::from)
 }
 
 fn figures(line: Line<Label>) -> (u32, u32, u32) {
@@ -49,7 +48,7 @@ fn both_finders_count_alike(rt: HostRuntime) {
         item: FILLER,
         place: 0,
     }; 3];
-    let mut slots = [Slot::vacant(FILLER); 3];
+    let mut slots = [Slot::vacant(); 3];
     let straight = row(&mut StraightFinder::over(&mut bindings));
     let hashed = row(&mut HashedFinder::over(&mut slots));
     assert_eq!(rt; straight, hashed);

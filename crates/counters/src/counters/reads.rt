@@ -6,16 +6,12 @@ ghost use Rattle.counters.specs.Meaning.{size, placed, Structured};
 
 use crate::counters::Counters;
 use rows::entry::Entry;
-use table::reads;
 
-// A link as a place.
+// A link as a place: in a function of its own, since with a `?` in its callers their proofs did not close.
 fn place_of(link: Option<u16>) -> Option<usize>
     ensures { result ≡ link }
 {
-    match link {
-        None => None,
-        Some(place) => Some(place as usize),
-    }
+    link.map(usize::from)
 }
 
 impl<'a, T: Copy> Counters<'a, T> {
@@ -46,25 +42,26 @@ impl<'a, T: Copy> Counters<'a, T> {
         ensures found { result ≡ placed_entry (at_place place (placed self.now)) }
         ensures at { (i : ℕ) → place_at (placed self.now) i ≡ Some place → result ≡ nth_entry (placed self.now) i }
     {
-        if place < self.used {
-            reads::entry(self.table.places, place as u16)
-        } else {
-            None
+        if place >= self.used {
+            return None;
         }
+        self.table.entry(place as u16)
     }
+
+    // The ends have a name each, as a slice's have: with a side for the end, it would be chosen at each call.
 
     /// The place of the lowest entry.
     pub fn first(&self) -> Option<usize>
         ensures { result ≡ place_at (placed self.now) 0 }
     {
-        place_of(reads::first(self.table.places, self.table.lists))
+        place_of(self.table.first())
     }
 
     /// The place of the highest entry.
     pub fn last(&self) -> Option<usize>
         ensures { result ≡ place_at (placed self.now) (length (placed self.now) - 1) }
     {
-        place_of(reads::last(self.table.places, self.table.lists))
+        place_of(self.table.last())
     }
 
     /// The place of the entry right below the one at `place`; none below the lowest, and none for a place not in use.
@@ -72,10 +69,9 @@ impl<'a, T: Copy> Counters<'a, T> {
         ensures below { result ≡ place_below place (placed self.now) }
         ensures steps { (i : ℕ) → place_at (placed self.now) (i + 1) ≡ Some place → result ≡ place_at (placed self.now) i }
     {
-        if place < self.used {
-            place_of(reads::before(self.table.places, place as u16))
-        } else {
-            None
+        if place >= self.used {
+            return None;
         }
+        place_of(self.table.before(place as u16))
     }
 }

@@ -1,14 +1,13 @@
 // Making a hashed finder, and its calls.
-ghost use Rattle.std.specs.Prelude.{◌≡◌, ◌%◌, length, MatchOption};
+ghost use Rattle.std.specs.Prelude.{length};
 ghost use Rattle.finders.specs.Calls.{MadeOver};
 ghost use Rattle.hashed.specs.Slots.{Lawful};
-ghost use Rattle.hashed.specs.Steps.{Located, Missing};
 ghost use Rattle.hashed.specs.Members.{slots_within, empty_lawful};
 ghost use Rattle.hashed.specs.Hashed.{entries_of, bindings_of, room_of};
 
 use crate::finder::HashedFinder;
 use crate::slot::{Entry, Slot};
-use crate::table::{Spot, Table, chain_for, clear, place_of, seek};
+use crate::table::Table;
 use finders::finder::{Binding, Finder};
 use finders::refusal::{MOST_SLOTS, Refusal};
 use items::kind::Kind;
@@ -19,21 +18,13 @@ impl<'a, T: Copy + Drop> HashedFinder<'a, T> {
     pub fn over(slots: &'a mut [Slot<T>]) -> HashedFinder<'a, T>
         ensures { MadeOver bindings_of room_of (length slots.old) result }
     {
+        // As in the straight finder: two lines of the library's, which a function of its own would not make shorter.
         let count = slots.len().min(MOST_SLOTS);
         let (slots, _) = slots.split_at_mut(count);
-        let free = clear(slots);
         HashedFinder {
-            table: Table { slots, free },
+            table: Table::over(slots),
             held: 0,
         }
-    }
-}
-
-impl<'a, T: Kind + Copy + Drop> HashedFinder<'a, T> {
-    fn locate(&self, item: &T) -> Option<Spot>
-        ensures { MatchOption result (Missing T.Kind.same self.now.table.slots.now item.now (T.Kind.mark_of item.now % room_of self.now)) (λ s. Located T.Kind.same self.now.table.slots.now item.now (T.Kind.mark_of item.now % room_of self.now) s.before s.here) }
-    {
-        seek(self.table.slots, item)
     }
 }
 
@@ -49,45 +40,32 @@ impl<'a, T: Kind + Copy + Drop> Finder<T> for HashedFinder<'a, T> {
     ghost fresh = { λ f. empty_lawful T.Kind.same T.Kind.mark_of (entries_of f) };
 
     fn find(&self, item: &T) -> Option<usize> {
-        match self.locate(item) {
-            Some(spot) => Some(place_of(self.table.slots, spot.here as usize)),
-            None => None,
-        }
+        let spot = self.table.locate(item)?;
+        let entry = self.table.slots[spot.here as usize].entry?;
+        Some(entry.binding.place)
     }
 
     fn enter(&mut self, item: T, place: usize) -> Result<(), Refusal> {
         if self.find(&item).is_some() {
             return Err(Refusal::Held);
         }
-        match self.table.free {
-            Some(here) => {
-                let mark = item.mark();
-                let binding = Binding { item, place };
-                self.table.insert(
-                    here,
-                    Entry {
-                        binding,
-                        mark,
-                        used: true,
-                    },
-                );
-                self.held += 1;
-                Ok(())
-            }
-            None => Err(Refusal::Full),
-        }
+        let Some(here) = self.table.free else {
+            return Err(Refusal::Full);
+        };
+        let mark = item.mark();
+        let binding = Binding { item, place };
+        self.table.insert(here, Entry { binding, mark });
+        self.held += 1;
+        Ok(())
     }
 
     fn leave(&mut self, item: &T) -> Result<(), Refusal> {
-        match self.locate(item) {
-            Some(spot) => {
-                let chain = chain_for(item, self.table.slots.len());
-                self.table.remove(chain, spot);
-                self.held -= 1;
-                Ok(())
-            }
-            None => Err(Refusal::Absent),
-        }
+        let Some(spot) = self.table.locate(item) else {
+            return Err(Refusal::Absent);
+        };
+        self.table.remove(spot);
+        self.held -= 1;
+        Ok(())
     }
 
     fn held(&self) -> usize {

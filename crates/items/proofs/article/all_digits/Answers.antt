@@ -1,18 +1,11 @@
--- What is left decides whether all bytes are digits.
-use Rattle.std.proofs.Common.{◌+◌, ◌&&◌, drop, sym, ap, ◌∙◌}
-use Rattle.std.proofs.lemmas.List.{at_drop_more, at_drop_all}
-use Rattle.std.specs.Str.{all_ascii_digits}
+use Rattle.std.proofs.Common.{rules, tests, ◌∙◌}
+use Rattle.std.proofs.lemmas.Iterator.{YieldsList-from_slice}
+use Rattle.std.proofs.lemmas.Iterator.Search.{all_from_yields_List}
+use Rattle.std.specs.Char.{is_ascii_digit}
+use Rattle.items.proofs.Digits.{each_is_digit}
 use Rattle.items.proofs.article.all_digits.Goals as goal
 
-pub returns-then-not-is_ascii_digit : goal.returns-then-not-is_ascii_digit
-returns-then-not-is_ascii_digit c =
-    ap (λ t. t && all_ascii_digits (drop (c.loop-b.b-index + 1) c.args.bytes.now)) c.if-not-is_ascii_digit.ensures.value
-    ∙ sym (at_drop_more all_ascii_digits c.args.bytes.now c.loop-b.b-index 0 c.loop-b-test.true) ∙ c.loop-b.invariant
-
-pub loop-b-preserved : goal.loop-b-preserved
-loop-b-preserved c =
-    ap (λ t. t && all_ascii_digits (drop (c.loop-b.b-index + 1) c.args.bytes.now)) c.if-not-is_ascii_digit.ensures.value
-    ∙ sym (at_drop_more all_ascii_digits c.args.bytes.now c.loop-b.b-index 0 c.loop-b-test.true) ∙ c.loop-b.invariant
-
 pub returns : goal.returns
-returns c = sym (at_drop_all all_ascii_digits c.args.bytes.now c.loop-b.b-index c.loop-b-test.false) ∙ c.loop-b.invariant
+returns c =
+    all_from_yields_List is_ascii_digit _ _ _ c.all.ensures.ran (YieldsList-from_slice c.args.bytes.now cc) (λ x b q k. search (rules, tests))
+    ∙ each_is_digit c.args.bytes.now

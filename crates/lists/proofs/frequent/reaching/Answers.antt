@@ -1,48 +1,36 @@
--- All entries that were passed reach the threshold, and no entry behind the first that does not.
-use Rattle.std.proofs.Common.{sym, arith}
+-- The entries that reach the threshold are the first ones, up to the first that does not.
+use Rattle.std.proofs.Common.{◌≡◌, ◌≤◌, length, take, sym, ap, ◌∙◌, inl, rules, arith}
+use borrow.Author.Tests.{tests}
+use Rattle.std.specs.List.{prefix_len}
+use Rattle.std.proofs.lemmas.List.{length-take}
+use Rattle.std.proofs.lemmas.List.Folds.{length-prefix_len}
+use Rattle.std.proofs.lemmas.Iterator.Consumers.{YieldsList-from_first, count_from_yields_List}
+use Rattle.std.proofs.lemmas.Iterator.Search.{YieldsList-from_take_while}
 use Rattle.rows.specs.Questions.{by_position, sure}
 use Rattle.calls.specs.Lists.{line}
 use Rattle.lists.specs.Row.{row_of}
-use Rattle.lists.proofs.Places.{met, past}
-use Rattle.lists.proofs.Sorting.{highest_first, short}
-use Rattle.lists.proofs.Listing.{lists_more, lists_up_to, lists_before, number_of}
+use Rattle.lists.specs.Walks.{ahead}
+use Rattle.lists.proofs.Sorting.{highest_first}
+use Rattle.lists.proofs.Listing.{reached, reaching_first, number_of}
+use Rattle.lists.proofs.frequent.reaching.Given.{Over}
 use Rattle.lists.proofs.frequent.reaching.Goals as goal
 
-pub returns-then-not-reaches : goal.returns-then-not-reaches
-returns-then-not-reaches g c =
-    let row = row_of c.args.counters.now in
-    let n = c.loop-entry.listed in
-    let inv = c.loop-entry.invariant in
-    let at = met row n _ _ (c.next.ensures.entry n inv.0) c.in-Some.is in
-    let list = lists_before c.args.threshold (by_position row) n c.in-Some.entry (highest_first c.args.counters.now) at (sym c.if-not-reaches.ensures) inv.1 in
-    record { list = list; number = number_of (λ e. line (sure c.args.threshold e) e) _ (by_position row) n inv.1.within list }
+pub count-requires-clause-fits : goal.count-requires-clause-fits
+count-requires-clause-fits g c = let same : ahead c.take_while.result.iter ≡ ahead c.new.result = cc in inl (omega (arith, ap length same, c.new.ensures.few))
 
-pub overflow_add-listed : goal.overflow_add-listed
-overflow_add-listed g c =
-    let row = row_of c.args.counters.now in
-    let n = c.loop-entry.listed in
-    let at = met row n _ _ (c.next.ensures.entry n c.loop-entry.invariant.0) c.in-Some.is in
-    omega (arith, at.below, short c.args.counters.now)
+prefix : (g : Over) (c : goal.After-count g) → c.count.result ≡ prefix_len (reached c.args.threshold) (by_position (row_of c.args.counters.now))
+prefix g c =
+    let es = by_position (row_of c.args.counters.now) in
+    let all : ahead c.take_while.result.iter ≡ es = let all = c.new.ensures.all in cc in
+    count_from_yields_List c.take_while.result c.count.result c.count.ensures.ran (YieldsList-from_take_while _ (reached c.args.threshold) (YieldsList-from_first (λ x. x) ahead es all) c.take_while.ensures.closure c.take_while.ensures.done (λ x b q k. search (rules, tests))) ∙ length-prefix_len (reached c.args.threshold) es
 
-pub loop-entry-smaller : goal.loop-entry-smaller
-loop-entry-smaller g c =
-    let row = row_of c.args.counters.now in
-    let n = c.loop-entry.listed in
-    let at = met row n _ _ (c.next.ensures.entry n c.loop-entry.invariant.0) c.in-Some.is in
-    omega (arith, at.below)
+pub returns-clause-list : goal.returns-clause-list
+returns-clause-list g c =
+    let es = by_position (row_of c.args.counters.now) in
+    reaching_first c.args.threshold es (highest_first c.args.counters.now) ∙ ap (λ n. take n es) (sym (prefix g c))
 
-pub loop-entry-preserved : goal.loop-entry-preserved
-loop-entry-preserved g c =
-    let row = row_of c.args.counters.now in
-    let n = c.loop-entry.listed in
-    let inv = c.loop-entry.invariant in
-    let at = met row n _ _ (c.next.ensures.entry n inv.0) c.in-Some.is in
-    (c.next.ensures.passed n inv.0, lists_more c.args.threshold (by_position row) n c.in-Some.entry at (sym c.if-not-reaches.ensures) inv.1)
-
-pub returns : goal.returns
-returns g c =
-    let row = row_of c.args.counters.now in
-    let n = c.loop-entry.listed in
-    let inv = c.loop-entry.invariant in
-    let list = lists_up_to c.args.threshold (by_position row) n (past row n _ (c.next.ensures.entry n inv.0) c.in_default.is) inv.1 in
-    record { list = list; number = number_of (λ e. line (sure c.args.threshold e) e) _ (by_position row) n inv.1.within list }
+pub returns-clause-number : goal.returns-clause-number
+returns-clause-number g c =
+    let es = by_position (row_of c.args.counters.now) in
+    let within : prefix_len (reached c.args.threshold) es ≤ length es = omega (arith, length-prefix_len (reached c.args.threshold) es, length-take (prefix_len (reached c.args.threshold) es) es) in
+    number_of (λ e. line (sure c.args.threshold e) e) _ es c.count.result (omega (arith, prefix g c)) (returns-clause-list g c)

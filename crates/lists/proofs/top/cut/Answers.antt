@@ -1,59 +1,57 @@
 -- The walk has passed no number that is clear, and its running minimum is the least lower figure so far.
-use Rattle.std.proofs.Common.{min, sym, ap, ◌∙◌, arith}
+use Rattle.std.proofs.Common.{◌≡◌, ℕ, ◌≤◌, min, length, drop, sym, ap, ◌∙◌, inl, Some, arith}
+use Rattle.rows.specs.Questions.{by_position}
 use Rattle.counters.specs.Meaning.{size, placed}
 use Rattle.lists.specs.Row.{row_of}
-use Rattle.lists.proofs.Places.{met, past, passed_at}
-use Rattle.lists.proofs.Sorting.{short, count_under, outside_under}
-use Rattle.lists.proofs.Cuts.{searched_none, searched_more, cut_found, cut_at_end, no_cut}
+use Rattle.lists.specs.Walks.{ahead}
+use Rattle.lists.proofs.Fronts.{splits, first, first_none}
+use Rattle.lists.proofs.Places.{length_entries}
+use Rattle.lists.proofs.Sorting.{count_under, outside_under}
+use Rattle.lists.proofs.Cuts.{searched_none, searched_more, cut_found, cut_at_end, listed_lines}
 use Rattle.lists.proofs.top.cut.Goals as goal
 
-pub loop-entry-init : goal.loop-entry-init
-loop-entry-init g c = let s = c.args.counters.now in (c.new-walk.ensures, searched_none (size s) c.args.k s.total (row_of s) _ c.total.ensures)
-
-pub returns-then-ends : goal.returns-then-ends
-returns-then-ends g c =
+pub loop-n-init : goal.loop-n-init
+loop-n-init g c =
     let s = c.args.counters.now in
-    let n = c.loop-entry.front.positions in
-    let inv = c.loop-entry.invariant in
-    let at = met (row_of s) n _ _ (c.next.ensures.entry n inv.0) c.in-Some.is in
-    cut_found (size s) c.args.k s.total (row_of s) n c.loop-entry.front.least c.in-Some.entry at (count_under s n c.in-Some.entry at) (sym c.if-ends.ensures) inv.1
-
-pub with-front-requires : goal.with-front-requires
-with-front-requires g c =
-    let s = c.args.counters.now in
-    let n = c.loop-entry.front.positions in
-    let at = met (row_of s) n _ _ (c.next.ensures.entry n c.loop-entry.invariant.0) c.in-Some.is in
-    omega (arith, at.below, short s)
-
-pub loop-entry-smaller : goal.loop-entry-smaller
-loop-entry-smaller g c =
-    let s = c.args.counters.now in
-    let n = c.loop-entry.front.positions in
-    let at = met (row_of s) n _ _ (c.next.ensures.entry n c.loop-entry.invariant.0) c.in-Some.is in
-    omega (arith, at.below, c.with-front.ensures.positions)
-
-pub loop-entry-preserved : goal.loop-entry-preserved
-loop-entry-preserved g c =
-    let s = c.args.counters.now in
-    let n = c.loop-entry.front.positions in
-    let least = c.loop-entry.front.least in
-    let inv = c.loop-entry.invariant in
-    let at = met (row_of s) n _ _ (c.next.ensures.entry n inv.0) c.in-Some.is in
-    let w = c.with-front.ensures in (
-      passed_at (placed s) _ _ _ w.positions (c.next.ensures.passed n inv.0),
-      searched_more (size s) c.args.k s.total (row_of s) n _ least _ c.in-Some.entry at (count_under s n c.in-Some.entry at) (sym c.if-ends.ensures) w.positions (w.least ∙ ap (min least) c.lower.ensures) inv.1,
+    let it = c.into_iter-n-iterator.result in
+    let all : ahead it.iter ≡ by_position (row_of s) = let all = c.new.ensures.all in cc in
+    let none : it.count ≡ 0 = cc in
+    let few : length (ahead it.iter) ≤ 512 = let same : ahead it.iter ≡ ahead c.new.result = cc in omega (arith, ap length same, c.new.ensures.few) in (
+      (tt, tt, inl (omega arith)),
+      tt,
+      all ∙ ap (λ (n : ℕ). drop n (by_position (row_of s))) (sym none),
+      searched_none (size s) c.args.k s.total (row_of s) it.count _ none c.total-least.ensures,
     )
 
-pub returns-then-front-outside : goal.returns-then-front-outside
-returns-then-front-outside g c =
+pub returns-then-least-entry : goal.returns-then-least-entry
+returns-then-least-entry g c =
     let s = c.args.counters.now in
-    let n = c.loop-entry.front.positions in
-    let inv = c.loop-entry.invariant in
-    cut_at_end (size s) c.args.k s.total (row_of s) n c.loop-entry.front.least c.outside.result (past (row_of s) n _ (c.next.ensures.entry n inv.0) c.in_default.is) (outside_under s) c.outside.ensures c.if-front-outside.true inv.1
+    let it = c.loop-n.n-iterator in
+    let inv = c.loop-n.invariant in
+    let step = c.in-Some.ensures.steps in
+    let at = (splits (by_position (row_of s)) it.count c.in-Some.entry _ (sym step.0 ∙ inv.2)).0 in
+    let is = ap Some step.1 ∙ cut_found (size s) c.args.k s.total (row_of s) it.count c.loop-n.least c.in-Some.entry at (count_under s it.count c.in-Some.entry at) (omega (arith, step.1)) (omega arith) inv.3 in
+    record { is = is; lines = listed_lines c.args.k s _ is }
 
-pub returns-else-front-outside : goal.returns-else-front-outside
-returns-else-front-outside g c =
+pub loop-n-preserved : goal.loop-n-preserved
+loop-n-preserved g c =
     let s = c.args.counters.now in
-    let n = c.loop-entry.front.positions in
-    let inv = c.loop-entry.invariant in
-    no_cut (size s) c.args.k s.total (row_of s) n c.loop-entry.front.least c.outside.result (past (row_of s) n _ (c.next.ensures.entry n inv.0) c.in_default.is) (outside_under s) c.outside.ensures c.if-front-outside.false inv.1
+    let it = c.loop-n.n-iterator in
+    let inv = c.loop-n.invariant in
+    let step = c.in-Some.ensures.steps in
+    let on = c.in-Some.ensures.goes.on inv.1 in
+    let behind = splits (by_position (row_of s)) it.count c.in-Some.entry _ (sym step.0 ∙ inv.2) in (
+      on.0,
+      on.1,
+      behind.1 ∙ ap (λ (n : ℕ). drop n (by_position (row_of s))) (sym step.2),
+      searched_more (size s) c.args.k s.total (row_of s) it.count _ c.loop-n.least _ c.in-Some.entry behind.0 (count_under s it.count c.in-Some.entry behind.0) (λ reached figure. omega (arith, step.1)) step.2 (c.min-least.ensures ∙ ap (min c.loop-n.least) c.lower.ensures) inv.3,
+    )
+
+pub returns : goal.returns
+returns g c =
+    let s = c.args.counters.now in
+    let it = c.loop-n.n-iterator in
+    let inv = c.loop-n.invariant in
+    let past = first_none _ it.count (ap first (sym inv.2 ∙ c.in-None.ensures.steps.0.0)) in
+    let is = c.then_some.ensures ∙ cut_at_end (size s) c.args.k s.total (row_of s) it.count c.loop-n.least c.used.result c.outside.result past (c.used.ensures.number ∙ sym (length_entries (placed s))) (outside_under s) c.outside.ensures inv.3 in
+    record { is = is; lines = listed_lines c.args.k s _ is }

@@ -1,17 +1,24 @@
 -- A counter is detached and attached one higher: the structure stands, and the row is the one raised.
 use Rattle.std.proofs.Common.{refl, ◌∙◌, arith, rules}
 use mathlib.Core.Logic.{∥∥₁_map, ∥∥₁_elim}
-use Rattle.std.proofs.lemmas.Bool.{true≢false}
-use Rattle.counters.proofs.Sets.{rows_set}
-use Rattle.counters.proofs.Hits.{made, no_place, no_count, not_made, used_of, count_of, raise_made, raise_stands}
+use Rattle.std.proofs.lemmas.Result.{err_from_is_err_and}
+use Rattle.std.proofs.Props.{props}
+use base.Stored.{Coded-set}
+use Rattle.counters.proofs.Hits.{made, no_counter, at_limit, used_of, count_of, raise_made, raise_stands}
 use Rattle.counters.proofs.counters.Counters.raise.Goals as goal
+
+pub returns-then-place-self-clause-answer : goal.returns-then-place-self-clause-answer
+returns-then-place-self-clause-answer g c = no_counter _ _ _ _ _ refl (used_of c.args.self.now) c.if-place-self.true
+
+pub returns-in_err-total-clause-answer : goal.returns-in_err-total-clause-answer
+returns-in_err-total-clause-answer g c =
+    let p = err_from_is_err_and c.from_residual.result c.from_residual.ensures.1 in
+    rw (p.1, p.2, c.in_err-total.ensures.1) (at_limit _ _ _ _ _ refl (used_of c.args.self.now) c.if-place-self.false c.in_err-total.ensures.0)
 
 pub overflow_add-count : goal.overflow_add-count
 overflow_add-count g c =
-    let s = c.args.self.now in
-    let u = count_of s c.args.place c.if-place-self.false in
-    let e = c.detach-detached.ensures.count in
-    let k = c.in-Some.ensures.0 in search rules
+    let u = count_of c.args.self.now c.args.place c.if-place-self.false in
+    let k = c.in_ok-total.ensures.0 in omega (arith, c)
 
 pub invariant_of-self : goal.invariant_of-self
 invariant_of-self g c =
@@ -21,28 +28,18 @@ invariant_of-self g c =
     record {
       small = omega (arith, s.small, z);
       fits = omega (arith, s.fits, z);
-      sound = ∥∥₁_map s.sound (λ st. raise_stands _ _ _ _ _ _ _ _ _ c.args.place _ _ _ st c.if-place-self.false d.out d.place d.count (search rules) c.in-Some.ensures.1);
+      sound = ∥∥₁_map s.sound (λ st. raise_stands _ _ _ _ _ _ _ _ _ c.args.place _ _ _ st c.if-place-self.false d.out d.place d.count (search rules) c.in_ok-total.ensures.1);
     }
 
-pub returns-then-place-self : goal.returns-then-place-self
-returns-then-place-self g c =
-    let s = c.args.self.now in
-    record { answer = no_place _ _ _ _ _ refl (used_of s) c.if-place-self.true; moved = not_made s _ }
+pub returns-clause-answer : goal.returns-clause-answer
+returns-clause-answer g c = made _ _ _ _ _ refl (used_of c.args.self.now) c.if-place-self.false c.in_ok-total.ensures.0
 
-pub returns-in-None : goal.returns-in-None
-returns-in-None g c = record { answer = no_count _ _ c.in-None.ensures; moved = not_made c.args.self.now _ }
-
-pub returns-in-Some : goal.returns-in-Some
-returns-in-Some g c =
+pub returns-clause-moved : goal.returns-clause-moved
+returns-clause-moved g c =
     let s = c.args.self.now in
     let d = c.detach-detached.ensures in
     record {
-      answer = made _ _ _ _ _ refl (used_of s) c.if-place-self.false c.in-Some.ensures.0;
-      moved =
-          record {
-            places = c.attach.ensures.size ∙ d.out.quiet.size;
-            row = λ e. ∥∥₁_elim s.sound (rows_set g.row.T.coded _ _) (λ st. (raise_made _ _ _ _ _ _ _ _ c.args.place _ _ _ st c.if-place-self.false d.out d.place d.count c.attach.ensures).is);
-            total = λ e. c.in-Some.ensures.1;
-            refused = λ e. absurd (true≢false e);
-          };
+      places = c.attach.ensures.size ∙ d.out.quiet.size;
+      row = ∥∥₁_elim s.sound (hlevel (props, Coded-set g.row.T.coded)) (λ st. (raise_made _ _ _ _ _ _ _ _ c.args.place _ _ _ st c.if-place-self.false d.out d.place d.count c.attach.ensures).is);
+      total = c.in_ok-total.ensures.1;
     }

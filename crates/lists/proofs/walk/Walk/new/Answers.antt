@@ -1,6 +1,6 @@
-use Rattle.counters.specs.Meaning.{placed}
-use Rattle.lists.proofs.Places.{starts}
+use Rattle.std.proofs.Common.{rules}
+use Rattle.lists.proofs.Walking.{begins, few}
 use Rattle.lists.proofs.walk.Walk.new.Goals as goal
 
 pub returns : goal.returns
-returns g c = starts (placed c.args.counters.now) _ c.last.ensures
+returns g c = let s = c.args.counters.now in record { all = begins s _ (search rules); few = few s _ (search rules) }

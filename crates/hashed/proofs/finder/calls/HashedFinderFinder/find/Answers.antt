@@ -1,15 +1,24 @@
--- The walk ends at the slot that the look_up finds, or the look_up finds none.
-use Rattle.std.proofs.Common.{ℕ, Some, sym, ap, ◌∙◌}
-use Rattle.hashed.proofs.Entries.{found_place, missing_nowhere}
+-- The walk ends at the slot that the look-up finds, or the look-up finds none.
+use Rattle.std.proofs.Common.{◌≡◌, Some, sym, ap, ◌∙◌}
+use Rattle.hashed.specs.declared.slot.Entry.{Entry}
+use Rattle.hashed.proofs.Columns.{entry_read}
+use Rattle.hashed.proofs.Entries.{located_entry, found_place, missing_nowhere}
 use Rattle.hashed.proofs.finder.calls.HashedFinderFinder.find.Goals as goal
 
-pub returns-in-Some : goal.returns-in-Some
-returns-in-Some g c =
+pub returns-in_err-spot : goal.returns-in_err-spot
+returns-in_err-spot g c =
     λ lawful.
-    ap (λ (p : ℕ). Some p) c.place_of.ensures
-    ∙ sym (found_place g.T.Kind.same g.T.Kind.mark_of g.met.T.Kind.equivalence g.met.T.Kind.marks c.args.self.now.table.slots.now c.args.item.now _ _ _ c.in-Some.ensures lawful.apart)
+    c.from_residual.ensures
+    ∙ sym (missing_nowhere g.T.Kind.same g.T.Kind.mark_of g.met.T.Kind.equivalence g.met.T.Kind.marks c.args.self.now.table.slots.now c.args.item.now c.in_err-spot.ensures lawful)
 
-pub returns-in-None : goal.returns-in-None
-returns-in-None g c =
+pub returns : goal.returns
+returns g c =
     λ lawful.
-    sym (missing_nowhere g.T.Kind.same g.T.Kind.mark_of g.met.T.Kind.equivalence g.met.T.Kind.marks c.args.self.now.table.slots.now c.args.item.now c.in-None.ensures lawful)
+    let t = c.args.self.now.table.slots.now in
+    let x = c.args.item.now in
+    let located = c.in_ok-spot.ensures.1 in
+    let found = located_entry g.T.Kind.same t x _ located in
+    let read = sym c.in_ok-entry.was ∙ entry_read t _ _ located.inside ∙ found.is in
+    let same_entry : c.in_ok-entry.entry ≡ found.entry = cc in
+    ap (λ (e : Entry g.row.T.Denot). Some e.binding.place) same_entry
+    ∙ sym (found_place g.T.Kind.same g.T.Kind.mark_of g.met.T.Kind.equivalence g.met.T.Kind.marks t x _ located lawful.apart)

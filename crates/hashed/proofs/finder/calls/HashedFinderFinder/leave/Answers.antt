@@ -1,59 +1,55 @@
 -- The slot that is found leaves its chain for the free ones: the structure still stands, and the map is without its item.
-use Rattle.std.proofs.Common.{◌≡◌, ℕ, ◌<◌, List, length, get_or, set, sym, refl, ap, subst, arith}
+use Rattle.std.proofs.Common.{◌≡◌, ◌<◌, List, length, set, None, Option, ap, arith}
 use mathlib.Core.Logic.{∥∥₁_map}
-use lib.ListN.{length-map}
-use Rattle.finders.specs.Calls.{Left}
 use Rattle.items.proofs.Put.{put_length}
 use Rattle.finders.proofs.Refusing.{leaves}
 use Rattle.hashed.specs.declared.slot.Entry.{Entry}
-use Rattle.hashed.specs.Slots.{entries, bindings_in, Lawful}
-use Rattle.hashed.specs.Steps.{spent, Split}
-use Rattle.hashed.proofs.Entries.{blank, put_spent, found_place, missing_nowhere, lawful_left, left_slot, stays_out}
-use Rattle.hashed.proofs.Standing.{as_many, sound_removed, before_inside}
+use Rattle.hashed.specs.Slots.{entries, bindings_in}
+use Rattle.hashed.proofs.Entries.{located_entry, put_located, found_place, missing_nowhere, lawful_left, left_slot, stays_out}
+use Rattle.hashed.proofs.Standing.{as_many, sound_removed, spot_inside}
 use Rattle.hashed.proofs.finder.calls.HashedFinderFinder.leave.Goals as goal
+
+pub returns-in_default-clause-answer : goal.returns-in_default-clause-answer
+returns-in_default-clause-answer g c =
+    let t = c.args.self.now.table.slots.now in
+    let x = c.args.item.now in
+    λ lawful.
+    stays_out g.T.Kind.same (bindings_in (entries t)) x (missing_nowhere g.T.Kind.same g.T.Kind.mark_of g.met.T.Kind.equivalence g.met.T.Kind.marks t x c.in_default.ensures lawful)
 
 pub remove-requires : goal.remove-requires
 remove-requires g c =
     let f = c.args.self.now in
-    let located = c.in-Some.ensures in
-    record {
-      chain = c.chain_for-chain.ensures.below;
-      before = before_inside g.T.Kind.same f.table.slots.now f.table.free c.args.item.now _ _ _ f.sound located;
-      here = located.inside;
-    }
+    let located = c.in-Some.ensures.1 in
+    let inside = located.inside in
+    spot_inside g.T.Kind.same f.table.slots.now f.table.free c.args.item.now c.in-Some.spot f.sound (omega (arith, c.in-Some.ensures.0)) located
 
 pub overflow_sub-self : goal.overflow_sub-self
 overflow_sub-self g c =
     let f = c.args.self.now in
-    let t = f.table.slots.now in
-    let located = c.in-Some.ensures in
-    let inside = located.inside in
-    omega (arith, put_length (put_spent (entries t) c.in-Some.spot.here (blank c.args.item.now) (omega (arith, length-map t (λ s. s.entry))) located.used), f.counted)
+    omega (arith, put_length (put_located g.T.Kind.same f.table.slots.now c.args.item.now _ c.in-Some.ensures.1), f.counted)
 
 pub invariant_of-self : goal.invariant_of-self
 invariant_of-self g c =
     let f = c.args.self.now in
     let t = f.table.slots.now in
     let t' = c.remove.new.self.slots.now in
-    let i = c.in-Some.spot.here in
-    let d = blank c.args.item.now in
-    let e = spent (get_or (entries t) i d) in
-    let located = c.in-Some.ensures in
-    let inside : i < length t = located.inside in
-    let columns = c.remove.ensures.moved d in
-    let chain = c.chain_for-chain.ensures.value in
-    let out = put_spent (entries t) i d (omega (arith, length-map t (λ s. s.entry))) located.used in
-    let size = as_many t t' f.table.free c.remove.new.self.free i e columns in
-    let less : length (bindings_in (entries t')) ≡ length (bindings_in (set (entries t) i e)) = ap (λ (es : List (Entry g.row.T.Denot)). length (bindings_in es)) columns.entered in
-    let sound =
-    ∥∥₁_map f.sound
-    (λ st.
-    let P : ℕ → Type 0 = λ b. Split (st.chain b) c.in-Some.spot.before i in
-    sound_removed t t' f.table.free c.remove.new.self.free i c.chain_for-chain.result c.in-Some.spot.before e inside c.chain_for-chain.ensures.below refl columns c.remove.ensures.free st (subst P (sym chain) (located.split f.table.free st))) in
-    record { few = omega (arith, size, f.few); counted = omega (arith, put_length out, f.counted); sound = sound }
+    let spot = c.in-Some.spot in
+    let located = c.in-Some.ensures.1 in
+    let inside : spot.here < length t = located.inside in
+    let low : spot.chain < length t = omega (arith, c.in-Some.ensures.0) in
+    let columns = c.remove.ensures.moved in
+    let size = as_many t t' f.table.free c.remove.new.self.free spot.here None columns.entered in
+    let less : length (bindings_in (entries t')) ≡ length (bindings_in (set (entries t) spot.here None)) = ap (λ (es : List (Option (Entry g.row.T.Denot))). length (bindings_in es)) columns.entered in
+    record {
+      few = omega (arith, size, f.few);
+      counted = omega (arith, put_length (put_located g.T.Kind.same t c.args.item.now _ located), f.counted);
+      sound =
+          ∥∥₁_map f.sound
+          (λ st. sound_removed t t' f.table.free c.remove.new.self.free spot.here spot.chain spot.before inside low columns c.remove.ensures.free st (located.split f.table.free st));
+    }
 
-pub returns-in-Some : goal.returns-in-Some
-returns-in-Some g c =
+pub returns : goal.returns
+returns g c =
     let same = g.T.Kind.same in
     let mark_of = g.T.Kind.mark_of in
     let laws = g.met.T.Kind.equivalence in
@@ -61,32 +57,16 @@ returns-in-Some g c =
     let f = c.args.self.now in
     let t = f.table.slots.now in
     let es = entries t in
-    let t' = c.remove.new.self.slots.now in
     let x = c.args.item.now in
     let i = c.in-Some.spot.here in
-    let d = blank x in
-    let located = c.in-Some.ensures in
-    let inside : i < length es = omega (arith, located.inside, length-map t (λ s. s.entry)) in
-    let columns = c.remove.ensures.moved d in
-    let P : List (Entry g.row.T.Denot) → Type 0 = λ cs. Lawful same mark_of cs in
-    let Q : List (Entry g.row.T.Denot) → Type 0 = λ cs. Left same (bindings_in es) x (bindings_in cs) in
+    let located = c.in-Some.ensures.1 in
+    let found = located_entry same t x _ located in
+    let out = put_located same t x _ located in
+    let columns = c.remove.ensures.moved in
     record {
-      answer = λ lawful. leaves same (bindings_in es) x (found_place same mark_of laws marks t x _ _ i located lawful.apart);
+      answer = λ lawful. leaves same (bindings_in es) x (found_place same mark_of laws marks t x _ located lawful.apart);
       refused = tt;
-      left = λ lawful. subst Q (sym columns.entered) (left_slot same mark_of laws marks es i inside lawful d located.used x located.hit);
-      room = as_many t t' f.table.free c.remove.new.self.free i (spent (get_or es i d)) columns;
-      lawful = λ lawful. subst P (sym columns.entered) (lawful_left same mark_of laws marks es i inside lawful d located.used);
-    }
-
-pub returns-in-None : goal.returns-in-None
-returns-in-None g c =
-    let same = g.T.Kind.same in
-    let t = c.args.self.now.table.slots.now in
-    let x = c.args.item.now in
-    record {
-      answer = λ lawful. stays_out same (bindings_in (entries t)) x (missing_nowhere same g.T.Kind.mark_of g.met.T.Kind.equivalence g.met.T.Kind.marks t x c.in-None.ensures lawful);
-      refused = refl;
-      left = λ _. tt;
-      room = refl;
-      lawful = λ lawful. lawful;
+      left = λ lawful. rw columns.entered (left_slot same mark_of laws marks es i found.entry lawful out x found.alike);
+      room = as_many t c.remove.new.self.slots.now f.table.free c.remove.new.self.free i None columns.entered;
+      lawful = λ lawful. rw columns.entered (lawful_left same mark_of laws marks es i found.entry lawful out);
     }

@@ -1,5 +1,0 @@
-use Rattle.hashed.proofs.Columns.{read_field}
-use Rattle.hashed.proofs.table.link_of.Goals as goal
-
-pub returns : goal.returns
-returns g c = read_field c.args.slots.now (λ s. s.link) _ _ _ c.requires

@@ -1,6 +1,0 @@
-use Rattle.std.proofs.Common.{rules}
-use Rattle.links.proofs.Listing.{unlinked_by}
-use Rattle.links.proofs.lists.unlink.Goals as goal
-
-pub returns : goal.returns
-returns g c = unlinked_by g.K.Links.accessors g.met.K.Links.lawful _ _ _ _ _ (search rules) (search rules)
