@@ -1,5 +1,5 @@
 -- What the links say of a table that stands is what the placed row says.
-use Rattle.std.proofs.Common.{◌≡◌, ℕ, ◌+◌, ◌-◌, ◌<◌, ◌≤◌, length, Some, None, add-one}
+use Rattle.std.proofs.Common.{◌≡◌, ℕ, ◌+◌, ◌-◌, ◌<◌, ◌≤◌, length, Some, None, add-one, sym}
 use mathlib.Core.Logic.{∥∥₁_elim}
 use Rattle.std.proofs.Props.{props}
 use Rattle.table.specs.Moves.{lowest, highest, lower, own_entry}
@@ -10,11 +10,11 @@ use Rattle.counters.specs.declared.counters.Counters.{Counters}
 use Rattle.counters.specs.Meaning.{placed}
 
 module _ {T : Type 0} (s : Counters T) where
-  pub lowest_place : lowest s.table.places.now s.table.lists ≡ place_at (placed s) 0
-  lowest_place = ∥∥₁_elim s.sound (hlevel props) (λ st. first_is _ _ _ _ st)
+  pub lowest_place : place_at (placed s) 0 ≡ lowest s.table.places.now s.table.lists
+  lowest_place = ∥∥₁_elim s.sound (hlevel props) (λ st. sym (first_is _ _ _ _ st))
 
-  pub highest_place : highest s.table.places.now s.table.lists ≡ place_at (placed s) (length (placed s) - 1)
-  highest_place = ∥∥₁_elim s.sound (hlevel props) (λ st. last_is _ _ _ _ st)
+  pub highest_place : place_at (placed s) (length (placed s) - 1) ≡ highest s.table.places.now s.table.lists
+  highest_place = ∥∥₁_elim s.sound (hlevel props) (λ st. sym (last_is _ _ _ _ st))
 
   pub lower_place : (p : ℕ) → p < s.used → lower s.table.places.now p ≡ place_below p (placed s)
   lower_place p lt = ∥∥₁_elim s.sound (hlevel props) (λ st. below_is _ _ _ _ st p lt)

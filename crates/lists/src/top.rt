@@ -1,5 +1,5 @@
 // The top list.
-ghost use Rattle.std.specs.Prelude.{◌≡◌, length, take};
+ghost use Rattle.std.specs.Prelude.{◌≡◌, ◌&&◌, length, take, nat_le};
 ghost use Rattle.std.specs.Option.{unwrap_or};
 ghost use Rattle.rows.specs.Questions.{by_position, cut, top, ordered};
 ghost use Rattle.counters.specs.Meaning.{size, placed};
@@ -18,6 +18,13 @@ use std::iter::once;
 
 // The counters and k stay two parameters: each function is called once, so a type for both would add more than it takes away.
 
+// Whether a list of n may end before a figure: k are listed, and no lower figure is below it.
+fn may_end(k: usize, n: usize, least: u32, figure: u32) -> bool
+    ensures { result ≡ nat_le k n && nat_le figure least }
+{
+    n >= k && least >= figure
+}
+
 // Where the top list of k ends, if it can be guaranteed. It has the lines up to there, or all.
 fn cut<T: Copy + Drop>(counters: &Counters<'_, T>, k: usize) -> Option<usize>
     ensures is { result ≡ cut k (size counters.now) (row_of counters.now) }
@@ -26,7 +33,7 @@ fn cut<T: Copy + Drop>(counters: &Counters<'_, T>, k: usize) -> Option<usize>
     // No figure is above the total.
     let mut least = counters.total();
     for (n, entry) in Walk::new(counters).enumerate() {
-        if n >= k && least >= entry.count {
+        if may_end(k, n, least, entry.count) {
             return Some(n);
         }
         least = least.min(lower(entry));

@@ -51,6 +51,7 @@ impl<'a, T: Copy> Counters<'a, T> {
     // The ends have a name each, as a slice's have: with a side for the end, it would be chosen at each call.
 
     /// The place of the lowest entry.
+    #[tactic(auto, using(crate::proofs::Showings::lowest_place))]
     pub fn first(&self) -> Option<usize>
         ensures { result ≡ place_at (placed self.now) 0 }
     {
@@ -58,6 +59,7 @@ impl<'a, T: Copy> Counters<'a, T> {
     }
 
     /// The place of the highest entry.
+    #[tactic(auto, using(crate::proofs::Showings::highest_place))]
     pub fn last(&self) -> Option<usize>
         ensures { result ≡ place_at (placed self.now) (length (placed self.now) - 1) }
     {

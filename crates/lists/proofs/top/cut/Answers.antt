@@ -1,5 +1,6 @@
 -- The walk has passed no number that is clear, and its running minimum is the least lower figure so far.
-use Rattle.std.proofs.Common.{◌≡◌, ℕ, ◌≤◌, min, length, drop, sym, ap, ◌∙◌, inl, Some, arith}
+use Rattle.std.proofs.Common.{◌≡◌, ℕ, ◌≤◌, leb, min, length, drop, sym, ap, ◌∙◌, inl, Some, arith}
+use Rattle.std.proofs.lemmas.Bool.{and_parts, and_from, both_ways, leb-true, le-leb}
 use Rattle.rows.specs.Questions.{by_position}
 use Rattle.counters.specs.Meaning.{size, placed}
 use Rattle.lists.specs.Row.{row_of}
@@ -23,14 +24,17 @@ loop-n-init g c =
       searched_none (size s) c.args.k s.total (row_of s) it.count _ none c.total-least.ensures,
     )
 
-pub returns-then-least-entry : goal.returns-then-least-entry
-returns-then-least-entry g c =
+pub returns-then-may_end : goal.returns-then-may_end
+returns-then-may_end g c =
     let s = c.args.counters.now in
     let it = c.loop-n.n-iterator in
     let inv = c.loop-n.invariant in
     let step = c.in-Some.ensures.steps in
     let at = (splits (by_position (row_of s)) it.count c.in-Some.entry _ (sym step.0 ∙ inv.2)).0 in
-    let is = ap Some step.1 ∙ cut_found (size s) c.args.k s.total (row_of s) it.count c.loop-n.least c.in-Some.entry at (count_under s it.count c.in-Some.entry at) (omega (arith, step.1)) (omega arith) inv.3 in
+    let ends = and_parts (leb c.args.k c.in-Some.n) (leb c.in-Some.entry.count c.loop-n.least) (sym c.may_end.ensures ∙ c.if-may_end.true) in
+    let long : c.args.k ≤ c.in-Some.n = leb-true c.args.k c.in-Some.n ends.0 in
+    let reached : c.args.k ≤ it.count = omega (arith, step.1, long) in
+    let is = ap Some step.1 ∙ cut_found (size s) c.args.k s.total (row_of s) it.count c.loop-n.least c.in-Some.entry at (count_under s it.count c.in-Some.entry at) reached (leb-true c.in-Some.entry.count c.loop-n.least ends.1) inv.3 in
     record { is = is; lines = listed_lines c.args.k s _ is }
 
 pub loop-n-preserved : goal.loop-n-preserved
@@ -44,7 +48,7 @@ loop-n-preserved g c =
       on.0,
       on.1,
       behind.1 ∙ ap (λ (n : ℕ). drop n (by_position (row_of s))) (sym step.2),
-      searched_more (size s) c.args.k s.total (row_of s) it.count _ c.loop-n.least _ c.in-Some.entry behind.0 (count_under s it.count c.in-Some.entry behind.0) (λ reached figure. omega (arith, step.1)) step.2 (c.min-least.ensures ∙ ap (min c.loop-n.least) c.lower.ensures) inv.3,
+      searched_more (size s) c.args.k s.total (row_of s) it.count _ c.loop-n.least _ c.in-Some.entry behind.0 (count_under s it.count c.in-Some.entry behind.0) (λ reached figure. both_ways _ c.if-may_end.false (c.may_end.ensures ∙ and_from _ _ (le-leb _ _ (omega (arith, step.1))) (le-leb _ _ figure))) step.2 (c.min-least.ensures ∙ ap (min c.loop-n.least) c.lower.ensures) inv.3,
     )
 
 pub returns : goal.returns
