@@ -6,8 +6,9 @@ ghost use Rattle.table.specs.Moves.{lowest};
 ghost use Rattle.table.specs.Placed.{raised, entered, overtaken, at_place, off_place};
 ghost use Rattle.counters.specs.Meaning.{size, placed, limit, moved_if, Moved};
 
+use crate::counters::Counters;
+use crate::counters::token::{lift, overtake, seat};
 use crate::counters::unmoved::Unmoved;
-use crate::counters::{Counters, Detached};
 use table::Table;
 use table::place::Place;
 
@@ -55,9 +56,7 @@ impl<'a, T: Copy> Counters<'a, T> {
             return Err(Unmoved::NoCounter);
         }
         let total = self.next_total()?;
-        let detached = Detached::detach(&mut self.table, place as u16);
-        let count = detached.count + 1;
-        detached.attach(&mut self.table, count);
+        lift(&mut self.table, place as u16);
         self.total = total;
         Ok(())
     }
@@ -73,9 +72,7 @@ impl<'a, T: Copy> Counters<'a, T> {
             return Err(Unmoved::NoCounter);
         }
         let total = self.next_total()?;
-        let detached = Detached::unused(place as u16);
-        detached.label(&mut self.table, item, 0);
-        detached.attach(&mut self.table, 1);
+        seat(&mut self.table, place as u16, item);
         self.used = place + 1;
         self.total = total;
         Ok(())
@@ -90,10 +87,7 @@ impl<'a, T: Copy> Counters<'a, T> {
     {
         let place = self.lowest()?;
         let total = self.next_total()?;
-        let detached = Detached::detach(&mut self.table, place);
-        let error = detached.count;
-        detached.label(&mut self.table, item, error);
-        detached.attach(&mut self.table, error + 1);
+        overtake(&mut self.table, place, item);
         self.total = total;
         Ok(())
     }

@@ -1,5 +1,5 @@
--- An unused counter is labelled and attached at count 1: the structure stands, and the row has one entry more.
-use Rattle.std.proofs.Common.{ℕ, length, sym, refl, ap, ◌∙◌, arith}
+-- A newcomer is seated at an unused counter: the structure stands, and the row has one entry more.
+use Rattle.std.proofs.Common.{ℕ, sym, refl, ap, ◌∙◌, arith}
 use mathlib.Core.Logic.{∥∥₁_map, ∥∥₁_elim}
 use Rattle.std.proofs.lemmas.Result.{err_from_is_err_and}
 use Rattle.std.proofs.Props.{props}
@@ -22,15 +22,11 @@ returns-in_err-total-clause-answer g c =
 pub invariant_of-self : goal.invariant_of-self
 invariant_of-self g c =
     let s = c.args.self.now in
-    let t = s.table.places.now in
-    let n = c.unused-detached in
-    let l = c.label.ensures in
-    let z = ap length l.places ∙ length_edit (labelled c.args.item 0) n.result.place t in
-    let z' = c.attach.ensures.size in
+    let z = c.seat.ensures.size ∙ length_edit (labelled c.args.item 0) s.used s.table.places.now in
     record {
-      small = omega (arith, s.small, z, z');
-      fits = omega (arith, c.if-place-self.false, z, z');
-      sound = ∥∥₁_map s.sound (λ st. rw c.in_ok-total.ensures.1 (enter_made _ _ _ _ _ _ _ _ _ _ _ st c.if-place-self.false n.ensures.place n.ensures.after l.places l.lists c.attach.ensures).stands);
+      small = omega (arith, s.small, z);
+      fits = omega (arith, c.if-place-self.false, z);
+      sound = ∥∥₁_map s.sound (λ st. rw c.in_ok-total.ensures.1 (enter_made _ _ _ _ _ _ c.args.item st c.if-place-self.false c.seat.ensures).stands);
     }
 
 pub returns-clause-answer : goal.returns-clause-answer
@@ -39,12 +35,10 @@ returns-clause-answer g c = made _ _ _ _ _ (used_of c.args.self.now) refl c.if-p
 pub returns-clause-moved : goal.returns-clause-moved
 returns-clause-moved g c =
     let s = c.args.self.now in
-    let n = c.unused-detached in
-    let l = c.label.ensures in
     record {
-      places = c.attach.ensures.size ∙ ap length l.places ∙ length_edit (labelled c.args.item 0) n.result.place s.table.places.now;
+      places = c.seat.ensures.size ∙ length_edit (labelled c.args.item 0) s.used s.table.places.now;
       row =
-          ∥∥₁_elim s.sound (hlevel (props, Coded-set g.row.T.coded)) (λ st. (enter_made _ _ _ _ _ _ _ _ _ _ _ st c.if-place-self.false n.ensures.place n.ensures.after l.places l.lists c.attach.ensures).is)
+          ∥∥₁_elim s.sound (hlevel (props, Coded-set g.row.T.coded)) (λ st. (enter_made _ _ _ _ _ _ c.args.item st c.if-place-self.false c.seat.ensures).is)
           ∙ ap (λ (k : ℕ). entered k c.args.item (placed s)) (sym (used_of s));
       total = c.in_ok-total.ensures.1;
     }

@@ -1,11 +1,12 @@
--- The lowest counter is detached, labelled and attached one higher: the structure stands, and the row is the one overtaken.
-use Rattle.std.proofs.Common.{◌<◌, length, refl, ap, ◌∙◌, arith}
+-- The lowest counter is overtaken: the structure stands, and so is the row.
+use Rattle.std.proofs.Common.{◌<◌, refl, ◌∙◌, arith}
 use mathlib.Core.Logic.{∥∥₁_map, ∥∥₁_elim}
 use Rattle.std.proofs.lemmas.Result.{err_from_is_err_and}
 use Rattle.std.proofs.Props.{props}
 use base.Stored.{Coded-set}
 use Rattle.links.proofs.Tables.{length_edit}
 use Rattle.table.specs.Fields.{labelled}
+use Rattle.counters.specs.Steps.{had}
 use Rattle.counters.proofs.Hits.{made, no_counter, at_limit, used_of, count_of, lowest_of, none_of, replace_made}
 use Rattle.counters.proofs.counters.Counters.replace.Goals as goal
 
@@ -22,24 +23,20 @@ returns-in_err-total-clause-answer g c =
     let p = err_from_is_err_and c.from_residual-in_err-total.result c.from_residual-in_err-total.ensures.1 in
     rw (p.1, p.2, c.in_err-total.ensures.1) (at_limit _ _ _ _ _ refl (used_of s) some c.in_err-total.ensures.0)
 
-pub overflow_add-error : goal.overflow_add-error
-overflow_add-error g c =
+pub overtake-requires : goal.overtake-requires
+overtake-requires g c =
     let s = c.args.self.now in
-    let u = count_of s c.in_ok-place.place (lowest_of s c.in_ok-place.place c.in_ok-place.ensures) in
-    let k = c.in_ok-total.ensures.0 in omega (arith, c)
+    omega (arith, count_of s c.in_ok-place.place (lowest_of s c.in_ok-place.place c.in_ok-place.ensures), c.in_ok-total.ensures.0)
 
 pub invariant_of-self : goal.invariant_of-self
 invariant_of-self g c =
     let s = c.args.self.now in
-    let d = c.detach-detached in
-    let l = c.label.ensures in
-    let z = d.ensures.out.quiet.size in
-    let z₁ = ap length l.places ∙ length_edit (labelled c.args.item d.result.count) d.result.place d.new.table.places.now in
-    let z₂ = c.attach.ensures.size in
+    let o = c.overtake.ensures in
+    let z = o.back.size ∙ length_edit (labelled c.args.item (had s.table.places.now c.overtake.new.table.places.now s.table.lists c.overtake.new.table.lists c.in_ok-place.place)) c.in_ok-place.place o.between ∙ o.out.quiet.size in
     record {
-      small = omega (arith, s.small, z, z₁, z₂);
-      fits = omega (arith, s.fits, z, z₁, z₂);
-      sound = ∥∥₁_map s.sound (λ st. rw c.in_ok-total.ensures.1 (replace_made _ _ _ _ _ _ _ _ _ _ c.in_ok-place.place _ _ _ _ st c.in_ok-place.ensures d.ensures.out d.ensures.place d.ensures.count l.places l.lists c.attach.ensures).stands);
+      small = omega (arith, s.small, z);
+      fits = omega (arith, s.fits, z);
+      sound = ∥∥₁_map s.sound (λ st. rw c.in_ok-total.ensures.1 (replace_made _ _ _ _ _ _ c.in_ok-place.place c.args.item st c.in_ok-place.ensures o).stands);
     }
 
 pub returns-clause-answer : goal.returns-clause-answer
@@ -52,10 +49,9 @@ returns-clause-answer g c =
 pub returns-clause-moved : goal.returns-clause-moved
 returns-clause-moved g c =
     let s = c.args.self.now in
-    let d = c.detach-detached in
-    let l = c.label.ensures in
+    let o = c.overtake.ensures in
     record {
-      places = c.attach.ensures.size ∙ ap length l.places ∙ length_edit (labelled c.args.item d.result.count) d.result.place d.new.table.places.now ∙ d.ensures.out.quiet.size;
-      row = ∥∥₁_elim s.sound (hlevel (props, Coded-set g.row.T.coded)) (λ st. (replace_made _ _ _ _ _ _ _ _ _ _ c.in_ok-place.place _ _ _ _ st c.in_ok-place.ensures d.ensures.out d.ensures.place d.ensures.count l.places l.lists c.attach.ensures).is);
+      places = o.back.size ∙ length_edit (labelled c.args.item (had s.table.places.now c.overtake.new.table.places.now s.table.lists c.overtake.new.table.lists c.in_ok-place.place)) c.in_ok-place.place o.between ∙ o.out.quiet.size;
+      row = ∥∥₁_elim s.sound (hlevel (props, Coded-set g.row.T.coded)) (λ st. (replace_made _ _ _ _ _ _ c.in_ok-place.place c.args.item st c.in_ok-place.ensures o).is);
       total = c.in_ok-total.ensures.1;
     }
