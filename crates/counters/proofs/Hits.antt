@@ -15,7 +15,7 @@ use Rattle.table.proofs.Showing.{used_is, first_is}
 use Rattle.counters.specs.declared.counters.Counters.{Counters}
 use Rattle.counters.specs.declared.counters.unmoved.Unmoved.TheVariants.{NoCounter, AtLimit}
 use Rattle.counters.specs.Meaning.{moved_if, placed, limit}
-use Rattle.counters.specs.Steps.{had, Lifted, Seated, Overtaken}
+use Rattle.counters.specs.Steps.{count_at, Lifted, Seated, Overtaken}
 
 -- ---- when a hit is made
 
@@ -53,11 +53,11 @@ module _ {T : Type 0} where
 
   module _ (t t' : List (Place T)) (s s' : Lists) (used total : ℕ) where
     pub raise_made : (p : ℕ) → Stands t s used total → p < used → Lifted t t' s s' p → Shows t' s' used (total + 1) (raised (at_place p (placed_row t s.main.first)) (off_place p (placed_row t s.main.first)))
-    raise_made p st lt l = raise_shows t l.between t' s l.ends s' used total p (had t t' s s' p + 1) l.after st lt l.out refl l.back
+    raise_made p st lt l = raise_shows t l.between t' s l.ends s' used total p (count_at t p + 1) l.after st lt l.out refl l.back
 
     pub enter_made : (x : T) → Stands t s used total → used < length t → Seated t t' s s' used x → Shows t' s' (used + 1) (total + 1) (entered used x (placed_row t s.main.first))
     enter_made x st lt put = enter_shows t t' s s' used total x st lt put
 
     pub replace_made : (p : ℕ) (x : T) → Stands t s used total → lowest t s ≡ Some p → Overtaken t t' s s' p x → Shows t' s' used (total + 1) (overtaken x (placed_row t s.main.first))
     replace_made p x st el o =
-        replace_shows t o.between t' s o.ends s' used total p (had t t' s s' p + 1) (had t t' s s' p) o.after x st el o.out refl refl o.back
+        replace_shows t o.between t' s o.ends s' used total p (count_at t p + 1) (count_at t p) o.after x st el o.out refl refl o.back

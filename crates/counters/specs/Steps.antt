@@ -6,18 +6,18 @@ use Rattle.table.specs.declared.lists.Lists.{Lists}
 use Rattle.table.specs.Fields.{owner_in, value_in, labelled}
 use Rattle.table.specs.Moves.{TakenOut, Attached}
 
-module _ {T : Type 0} (t t' : List (Place T)) (s s' : Lists) (p : ℕ) where
-  -- The count of the counter at p, before.
-  abbrev pub had : ℕ
-  had = value_in t (owner_in t p)
+-- The count of the counter at p.
+abbrev pub count_at : {T : Type 0} → List (Place T) → ℕ → ℕ
+count_at t p = value_in t (owner_in t p)
 
+module _ {T : Type 0} (t t' : List (Place T)) (s s' : Lists) (p : ℕ) where
   -- The counter at p is detached, and attached at one more than it had.
   pub record Lifted : Type 0 where
     pub between : List (Place T)
     pub ends : Lists
     pub after : Option ℕ
     pub out : TakenOut t between s ends p after
-    pub back : Attached between t' ends s' after (had + 1) p
+    pub back : Attached between t' ends s' after (count_at t p + 1) p
 
   -- The counter at p, which was in no bucket, is made one for x and attached at 1.
   abbrev pub Seated : T → Type 0
@@ -29,4 +29,4 @@ module _ {T : Type 0} (t t' : List (Place T)) (s s' : Lists) (p : ℕ) where
     pub ends : Lists
     pub after : Option ℕ
     pub out : TakenOut t between s ends p after
-    pub back : Attached (edit (labelled x had) p between) t' ends s' after (had + 1) p
+    pub back : Attached (edit (labelled x (count_at t p)) p between) t' ends s' after (count_at t p + 1) p

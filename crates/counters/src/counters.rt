@@ -20,11 +20,3 @@ pub struct Counters<'a, T> {
     ghost fits: { used ≤ length table.places.now },
     ghost sound: { ∥ Stands table.places.now table.lists used total ∥₁ },
 }
-
-/// A counter that is in no bucket: its place, the bucket that it stands behind, and the count that it had. It is not Drop,
-/// so it has to be attached again, once.
-pub struct Detached {
-    place: u16,
-    after: Option<u16>,
-    count: u32,
-}

@@ -62,6 +62,15 @@ impl<'a, T: Copy + Drop> Table<'a, T> {
         }
     }
 
+    // The number of the chain of a mark.
+    fn chain_of(&self, mark: u16) -> usize
+        requires { 0 < length self.now.slots.now }
+        ensures value { result ≡ mark % length self.now.slots.now }
+        ensures below { result < length self.now.slots.now }
+    {
+        mark as usize % self.slots.len()
+    }
+
     // Takes the first free slot, `here`, out of the free ones and puts it in front of the chain of the entry's mark.
     pub(crate) fn insert(&mut self, here: u16, entry: Entry<T>)
         requires { here < length self.old.slots.now }
@@ -69,7 +78,7 @@ impl<'a, T: Copy + Drop> Table<'a, T> {
         ensures moved { Columns self.new.slots.now (slice_set (entries self.old.slots.now) here (Some entry)) (slice_set (links self.old.slots.now) here (slice_index_or (heads self.old.slots.now) (entry.mark % length self.old.slots.now) None)) (slice_set (heads self.old.slots.now) (entry.mark % length self.old.slots.now) (Some here)) }
     {
         let i = here as usize;
-        let chain = entry.mark as usize % self.slots.len();
+        let chain = self.chain_of(entry.mark);
         self.free = self.slots[i].link;
         self.slots[i] = Slot {
             entry: Some(entry),
@@ -117,7 +126,7 @@ impl<'a, T: Kind + Copy + Drop> Table<'a, T> {
         ensures value { result ≡ T.Kind.mark_of item.now % length self.now.slots.now }
         ensures below { result < length self.now.slots.now }
     {
-        item.mark() as usize % self.slots.len()
+        self.chain_of(item.mark())
     }
 
     // Whether the slot is in use, with an item that is the same.

@@ -10,7 +10,7 @@ use items::kind::Kind;
 use table::place::Place;
 
 /// The most places that a summary is opened over.
-pub const MOST_PLACES: usize = 512;
+pub const MOST_PLACES: usize = counters::counters::moves::MOST_PLACES;
 
 /// Whether a summary can be opened over so many places with the finder: asked before it is opened.
 pub fn check_open<T: Kind, F: Finder<T>>(places: usize, finder: &F) -> Result<(), Refusal>

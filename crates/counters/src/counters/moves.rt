@@ -12,8 +12,8 @@ use crate::counters::unmoved::Unmoved;
 use table::Table;
 use table::place::Place;
 
-// The most places that counters are made over.
-const MOST_PLACES: usize = 512;
+/// The most places that counters are made over.
+pub const MOST_PLACES: usize = 512;
 
 impl<'a, T: Copy> Counters<'a, T> {
     /// No counter in use, whatever the memory held. Of more than 512 places the first 512 are taken.

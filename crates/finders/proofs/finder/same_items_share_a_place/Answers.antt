@@ -1,3 +1,4 @@
+-- Whatever the bindings, same items are looked up alike.
 use Rattle.finders.proofs.Bindings.{lookup_alike}
 use Rattle.finders.proofs.finder.same_items_share_a_place.Goals as goal
 

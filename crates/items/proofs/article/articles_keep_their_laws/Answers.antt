@@ -1,3 +1,4 @@
+-- The laws of articles, put together.
 use Rattle.items.proofs.Articles.{article_laws}
 use Rattle.items.proofs.article.articles_keep_their_laws.Goals as goal
 

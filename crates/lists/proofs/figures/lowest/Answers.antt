@@ -1,3 +1,4 @@
+-- The entry at the first place is the first of the row.
 use Rattle.std.proofs.Common.{sym, ◌∙◌}
 use Rattle.counters.specs.Meaning.{placed}
 use Rattle.lists.proofs.Places.{no_lowest}

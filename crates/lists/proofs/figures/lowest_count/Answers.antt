@@ -1,3 +1,4 @@
+-- The count of the first entry, or 0 for an empty row.
 use Rattle.std.proofs.Common.{rules}
 use Rattle.counters.specs.Meaning.{placed}
 use Rattle.lists.proofs.Places.{lowest_of}

@@ -1,3 +1,4 @@
+-- The lines so far are written, and the walk is behind them.
 use Rattle.std.proofs.Common.{◌≡◌, ◌+◌, drop}
 use Rattle.rows.specs.Questions.{by_position}
 use Rattle.lists.specs.Row.{row_of}

@@ -1,3 +1,4 @@
+-- The walk is behind the positions passed, and none of them is a cut.
 use Rattle.std.proofs.Common.{◌≡◌, drop}
 use Rattle.rows.specs.Questions.{by_position}
 use Rattle.counters.specs.Meaning.{size}

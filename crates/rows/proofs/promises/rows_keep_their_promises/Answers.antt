@@ -1,3 +1,4 @@
+-- The theorem on rows, for the sameness of a kind.
 use Rattle.rows.proofs.Theorem.{row_promises}
 use Rattle.rows.proofs.promises.rows_keep_their_promises.Goals as goal
 

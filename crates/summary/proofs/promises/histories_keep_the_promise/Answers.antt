@@ -1,3 +1,4 @@
+-- The promise of every history, at the counters and what their type gives.
 use Rattle.calls.proofs.Histories.{promise}
 use Rattle.summary.specs.Meaning.{reading, Structured}
 use Rattle.summary.proofs.Admitting.{reliable}

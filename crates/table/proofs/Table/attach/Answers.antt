@@ -1,3 +1,4 @@
+-- A counter is attached to the bucket that was found or made for its count.
 use Rattle.std.proofs.Common.{rules}
 use Rattle.table.proofs.Targeting.{attached_some, attached_none}
 use Rattle.table.proofs.Table.attach.Goals as goal

@@ -1,3 +1,4 @@
+-- A free bucket is taken into use between its neighbours.
 use Rattle.std.proofs.Common.{rules, ◌≡◌, Some}
 use Rattle.table.proofs.Bucketing.{fresh_some}
 use Rattle.table.proofs.Table.freshen.Goals as goal

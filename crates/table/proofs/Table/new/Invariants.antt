@@ -1,3 +1,4 @@
+-- The places so far are the free buckets, in order.
 use Rattle.std.proofs.Common.{◌≡◌, ◌≤◌, length}
 use Rattle.links.specs.Lists.{Listed}
 use Rattle.table.specs.Fields.{bucket_links, no_ends}

@@ -1,3 +1,4 @@
+-- A counter is out of its bucket, which is free if it was the last.
 use Rattle.std.proofs.Common.{rules}
 use Rattle.table.proofs.Quiets.{quiet_pulled}
 use Rattle.table.proofs.Bucketing.{taken_out}

@@ -1,3 +1,4 @@
+-- The next bucket serves if it has the count, else a free one.
 use Rattle.std.proofs.Common.{rules}
 use Rattle.table.proofs.Targeting.{targeted_same, targeted_fresh}
 use Rattle.table.proofs.Table.target.Goals as goal

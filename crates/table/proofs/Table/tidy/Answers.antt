@@ -1,3 +1,4 @@
+-- A bucket without a counter is free afterwards, and any other is left.
 use Rattle.table.proofs.Bucketing.{tidied_out, tidied_kept}
 use Rattle.table.proofs.Table.tidy.Goals as goal
 

@@ -1,3 +1,4 @@
+-- The counter before one is the entry right below; there is none for a place not in use.
 use Rattle.std.proofs.Common.{◌∙◌}
 use Rattle.counters.proofs.Showings.{lower_place, no_lower_place, one_below}
 use Rattle.counters.proofs.counters.Counters.before.Goals as goal

@@ -1,3 +1,4 @@
+-- The counter at a place is the entry there; there is none for a place not in use.
 use Rattle.std.proofs.Common.{◌∙◌}
 use Rattle.counters.proofs.Showings.{entry_there, no_entry, entry_at_position}
 use Rattle.counters.proofs.counters.Counters.entry.Goals as goal

@@ -6,7 +6,7 @@ use Rattle.std.proofs.Props.{props}
 use base.Stored.{Coded-set}
 use Rattle.links.proofs.Tables.{length_edit}
 use Rattle.table.specs.Fields.{labelled}
-use Rattle.counters.specs.Steps.{had}
+use Rattle.counters.specs.Steps.{count_at}
 use Rattle.counters.proofs.Hits.{made, no_counter, at_limit, used_of, count_of, lowest_of, none_of, replace_made}
 use Rattle.counters.proofs.counters.Counters.replace.Goals as goal
 
@@ -32,7 +32,7 @@ pub invariant_of-self : goal.invariant_of-self
 invariant_of-self g c =
     let s = c.args.self.now in
     let o = c.overtake.ensures in
-    let z = o.back.size ∙ length_edit (labelled c.args.item (had s.table.places.now c.overtake.new.table.places.now s.table.lists c.overtake.new.table.lists c.in_ok-place.place)) c.in_ok-place.place o.between ∙ o.out.quiet.size in
+    let z = o.back.size ∙ length_edit (labelled c.args.item (count_at s.table.places.now c.in_ok-place.place)) c.in_ok-place.place o.between ∙ o.out.quiet.size in
     record {
       small = omega (arith, s.small, z);
       fits = omega (arith, s.fits, z);
@@ -51,7 +51,7 @@ returns-clause-moved g c =
     let s = c.args.self.now in
     let o = c.overtake.ensures in
     record {
-      places = o.back.size ∙ length_edit (labelled c.args.item (had s.table.places.now c.overtake.new.table.places.now s.table.lists c.overtake.new.table.lists c.in_ok-place.place)) c.in_ok-place.place o.between ∙ o.out.quiet.size;
+      places = o.back.size ∙ length_edit (labelled c.args.item (count_at s.table.places.now c.in_ok-place.place)) c.in_ok-place.place o.between ∙ o.out.quiet.size;
       row = ∥∥₁_elim s.sound (hlevel (props, Coded-set g.row.T.coded)) (λ st. (replace_made _ _ _ _ _ _ c.in_ok-place.place c.args.item st c.in_ok-place.ensures o).is);
       total = c.in_ok-total.ensures.1;
     }

@@ -1,3 +1,4 @@
+-- As many counters are in use as the row has entries, and the links keep to the structure.
 use Rattle.std.proofs.Common.{sym}
 use Rattle.counters.proofs.Hits.{used_of}
 use Rattle.counters.proofs.Structures.{structured}

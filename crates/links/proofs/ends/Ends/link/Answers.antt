@@ -1,3 +1,4 @@
+-- What putting a place in writes is the list with it in between.
 use Rattle.std.proofs.Common.{rules}
 use Rattle.links.proofs.Listing.{linked_by}
 use Rattle.links.proofs.ends.Ends.link.Goals as goal

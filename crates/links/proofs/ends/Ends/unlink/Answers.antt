@@ -1,3 +1,4 @@
+-- What taking a place out writes is the list without it.
 use Rattle.std.proofs.Common.{rules}
 use Rattle.links.proofs.Listing.{unlinked_by}
 use Rattle.links.proofs.ends.Ends.unlink.Goals as goal

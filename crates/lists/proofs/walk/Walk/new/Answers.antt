@@ -1,3 +1,4 @@
+-- A walk that begins at the last place has the whole row ahead of it.
 use Rattle.std.proofs.Common.{rules}
 use Rattle.lists.proofs.Walking.{begins, few}
 use Rattle.lists.proofs.walk.Walk.new.Goals as goal

@@ -1,3 +1,4 @@
+-- A bracket answers by the entry found, and keeps all.
 use Rattle.std.proofs.Common.{rules}
 use Rattle.calls.proofs.FinderCalls.{keeps_bracket}
 use Rattle.summary.specs.Meaning.{reading, Structured}

@@ -1,3 +1,4 @@
+-- The frequent list of the counters is that of the summary, and keeps all.
 use Rattle.std.proofs.Common.{rules}
 use Rattle.calls.proofs.ListCalls.{keeps_frequent}
 use Rattle.summary.specs.Meaning.{reading, Structured}

@@ -1,3 +1,4 @@
+-- A hit that is admitted is counted, and a history goes on with it.
 use Rattle.std.proofs.Common.{rules}
 use Rattle.calls.proofs.FinderCalls.{keeps_hit}
 use Rattle.summary.specs.Meaning.{reading, Structured}

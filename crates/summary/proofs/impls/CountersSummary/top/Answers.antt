@@ -1,3 +1,4 @@
+-- The top list of the counters is that of the summary, and keeps all.
 use Rattle.std.proofs.Common.{rules}
 use Rattle.calls.proofs.ListCalls.{keeps_top}
 use Rattle.summary.specs.Meaning.{reading, Structured}
