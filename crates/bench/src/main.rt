@@ -1,6 +1,8 @@
 // Look-ups that miss in a full finder: the work whose instructions are counted, once for each finder.
 #![tactic(auto)]
 
+ghost use Rattle.std.specs.Prelude.{◌≤◌};
+
 use finders::finder::{Binding, Finder};
 use finders::refusal::Refusal;
 use finders::straight::StraightFinder;
@@ -36,12 +38,18 @@ impl Work {
         Ok(())
     }
 
-    // How many of the others are not found.
-    fn misses<F: Finder<Label>>(&self, finder: &F) -> usize {
-        self.others
-            .iter()
-            .filter(|item| finder.find(item).is_none())
-            .count()
+    // How many of the others are not found: none is counted twice. By a loop, since `filter` and `count` take six instructions
+    // more for each, and a look-up in the hashed finder some sixteen.
+    fn misses<F: Finder<Label>>(&self, finder: &F) -> usize
+        ensures { result ≤ 1000 }
+    {
+        let mut count = 0;
+        for item in &self.others {
+            if finder.find(item).is_none() {
+                count += 1;
+            }
+        }
+        count
     }
 
     // How many look-ups missed.

@@ -7,7 +7,7 @@ use Rattle.std.proofs.lemmas.Bool.{cond_both, cases_eq, cases_lt, eqb-true, eq-e
 use Rattle.hashed.specs.declared.slot.Entry.{Entry}
 use Rattle.hashed.specs.declared.slot.Slot.{Slot}
 use Rattle.hashed.specs.Chains.{In, Path}
-use Rattle.hashed.specs.Slots.{vacant_slot, entries, links, heads, bindings_in, chain_of, Sound}
+use Rattle.hashed.specs.Slots.{entry_of, vacant_slot, entries, links, heads, bindings_in, chain_of, Sound}
 use Rattle.hashed.specs.Steps.{entry_at, below, Cleared}
 
 module _ {T : Type 0} where
@@ -39,13 +39,13 @@ path_down link (suc n) linked =
 
 module _ {T : Type 0} (t : List (Slot T)) (cleared : Cleared t (length t)) where
   no_entry : (i : ℕ) → i < length t → entry_at (entries t) i ≡ None
-  no_entry i l = get_or-map (λ (s : Slot T). s.entry) t i vacant_slot ∙ ap (λ (s : Slot T). s.entry) (cleared i l)
+  no_entry i l = get_or-map entry_of t i vacant_slot ∙ ap entry_of (cleared i l)
 
   linked_below : (i : ℕ) → i < length t → get_or (links t) i None ≡ below i
   linked_below i l = get_or-map (λ (s : Slot T). s.link) t i vacant_slot ∙ ap (λ (s : Slot T). s.link) (cleared i l)
 
   pub cleared_bindings : bindings_in (entries t) ≡ []
-  cleared_bindings = none_used (entries t) (λ i l. no_entry i (omega (arith, length-map t (λ s. s.entry))))
+  cleared_bindings = none_used (entries t) (λ i l. no_entry i (omega (arith, length-map t entry_of)))
 
   no_head : (b : ℕ) → get_or (heads t) b None ≡ None
   no_head b =

@@ -1,16 +1,29 @@
 -- One field of every slot, as a list: what a read and a write of one slot are to it.
-use Rattle.std.proofs.Common.{◌≡◌, ℕ, ◌<◌, ◌≢◌, List, map, length, get_or, set, None, Option, sym, refl, ap, ◌∙◌, arith}
+use Rattle.std.proofs.Common.{◌≡◌, ℕ, ◌<◌, ◌≢◌, List, map, length, get_or, set, Some, None, Option, sym, refl, ap, ◌∙◌, arith}
 use lib.ListN.{length-map}
 use Rattle.std.proofs.lemmas.List.{get_or-map, map-set, get_or-set_same, get_or-set_other}
 use Rattle.std.proofs.Math.Seq.{map-set_same}
+use Rattle.std.specs.Option.{option_map}
 use Rattle.hashed.specs.declared.slot.Entry.{Entry}
+use Rattle.hashed.specs.declared.slot.Held.{Held}
 use Rattle.hashed.specs.declared.slot.Slot.{Slot}
+use Rattle.hashed.specs.Slots.{entry_of}
 
 -- ---- for the moves of a table, by which they are proved with no answers
 
 module _ {T : Type 0} where
-  pub entry_read : (t : List (Slot T)) (i : ℕ) (s : Slot T) → i < length t → (get_or t i s).entry ≡ get_or (map (λ s. s.entry) t) i None
-  entry_read t i s inside = sym (get_or-map (λ s. s.entry) t i s None inside)
+  pub entry_read : (t : List (Slot T)) (i : ℕ) (s : Slot T) → i < length t → entry_of (get_or t i s) ≡ get_or (map entry_of t) i None
+  entry_read t i s inside = sym (get_or-map entry_of t i s None inside)
+
+  placed : (p : ℕ) (o : Option (Held T)) (e : Entry T) → option_map (λ h. record { binding = record { item = h.item; place = p }; mark = h.mark }) o ≡ Some e → p ≡ e.binding.place
+  placed p None e is = absurd cc
+  placed p (Some h) e is =
+      let same : record { binding = record { item = h.item; place = p }; mark = h.mark } ≡ e = cc in
+      ap (λ (f : Entry T). f.binding.place) same
+
+  -- The place of a slot is that of its entry.
+  pub place_read : (t : List (Slot T)) (i : ℕ) (s : Slot T) → i < length t → (e : Entry T) → get_or (map entry_of t) i None ≡ Some e → (get_or t i s).place ≡ e.binding.place
+  place_read t i s inside e is = placed (get_or t i s).place (get_or t i s).held e (entry_read t i s inside ∙ is)
 
   pub link_read : (t : List (Slot T)) (i : ℕ) (s : Slot T) → i < length t → (get_or t i s).link ≡ get_or (map (λ s. s.link) t) i None
   link_read t i s inside = sym (get_or-map (λ s. s.link) t i s None inside)
@@ -19,17 +32,17 @@ module _ {T : Type 0} where
   head_read t i s inside = sym (get_or-map (λ s. s.head) t i s None inside)
 
   -- A write of one field leaves the other columns.
-  pub entries_kept : (t : List (Slot T)) (i : ℕ) (s : Slot T) (link head : Option ℕ) → map (λ s. s.entry) (set t i (record { entry = (get_or t i s).entry; link = link; head = head })) ≡ map (λ s. s.entry) t
-  entries_kept t i s link head = map-set_same (λ s. s.entry) t i _ s refl
+  pub entries_kept : (t : List (Slot T)) (i : ℕ) (s : Slot T) (link head : Option ℕ) → map entry_of (set t i (record { place = (get_or t i s).place; held = (get_or t i s).held; link = link; head = head })) ≡ map entry_of t
+  entries_kept t i s link head = map-set_same entry_of t i _ s refl
 
-  pub links_kept : (t : List (Slot T)) (i : ℕ) (s : Slot T) (entry : Option (Entry T)) (head : Option ℕ) → map (λ s. s.link) (set t i (record { entry = entry; link = (get_or t i s).link; head = head })) ≡ map (λ s. s.link) t
-  links_kept t i s entry head = map-set_same (λ s. s.link) t i _ s refl
+  pub links_kept : (t : List (Slot T)) (i : ℕ) (s : Slot T) (place : ℕ) (held : Option (Held T)) (head : Option ℕ) → map (λ s. s.link) (set t i (record { place = place; held = held; link = (get_or t i s).link; head = head })) ≡ map (λ s. s.link) t
+  links_kept t i s place held head = map-set_same (λ s. s.link) t i _ s refl
 
-  pub heads_kept : (t : List (Slot T)) (i : ℕ) (s : Slot T) (entry : Option (Entry T)) (link : Option ℕ) → map (λ s. s.head) (set t i (record { entry = entry; link = link; head = (get_or t i s).head })) ≡ map (λ s. s.head) t
-  heads_kept t i s entry link = map-set_same (λ s. s.head) t i _ s refl
+  pub heads_kept : (t : List (Slot T)) (i : ℕ) (s : Slot T) (place : ℕ) (held : Option (Held T)) (link : Option ℕ) → map (λ s. s.head) (set t i (record { place = place; held = held; link = link; head = (get_or t i s).head })) ≡ map (λ s. s.head) t
+  heads_kept t i s place held link = map-set_same (λ s. s.head) t i _ s refl
 
-  pub entries_written : (t : List (Slot T)) (i : ℕ) (s : Slot T) → map (λ s. s.entry) (set t i s) ≡ set (map (λ s. s.entry) t) i s.entry
-  entries_written t i s = map-set (λ s. s.entry) t i s
+  pub entries_written : (t : List (Slot T)) (i : ℕ) (s : Slot T) → map entry_of (set t i s) ≡ set (map entry_of t) i (entry_of s)
+  entries_written t i s = map-set entry_of t i s
 
   pub links_written : (t : List (Slot T)) (i : ℕ) (s : Slot T) → map (λ s. s.link) (set t i s) ≡ set (map (λ s. s.link) t) i s.link
   links_written t i s = map-set (λ s. s.link) t i s

@@ -19,7 +19,7 @@ use Rattle.hashed.specs.declared.slot.Slot.{Slot}
 use Rattle.hashed.specs.declared.table.Spot.{Spot}
 use Rattle.hashed.specs.Chains.{In, Path}
 use Rattle.hashed.specs.Members.{bindings_within}
-use Rattle.hashed.specs.Slots.{entries, heads, bindings_in, chain_of, Sound, Lawful}
+use Rattle.hashed.specs.Slots.{entry_of, entries, heads, bindings_in, chain_of, Sound, Lawful}
 use Rattle.hashed.specs.Steps.{entry_at, hits, hit_at, Located, Missing}
 use Rattle.hashed.proofs.Clearing.{own_by_entry}
 use Rattle.hashed.proofs.Standing.{head_of_free}
@@ -62,7 +62,7 @@ module _ {T : Type 0} where
 
   module _ (t : List (Slot T)) (free : Option ℕ) where
     same_length : length (entries t) ≡ length t
-    same_length = length-map t (λ s. s.entry)
+    same_length = length-map t entry_of
 
     -- No slot is free: as many bindings as slots.
     pub full : free ≡ None → ∥ Sound t free ∥₁ → length t ≤ length (bindings_in (entries t))
@@ -122,7 +122,7 @@ module _ {T : Type 0} (same : T → T → Bool) where
 
     -- Without it there is one binding less.
     pub put_located : Put located_entry.entry.binding (bindings_in (set (entries t) s.here None)) (bindings_in (entries t))
-    put_located = put_spent (entries t) s.here located_entry.entry (omega (arith, located.inside, length-map t (λ c. c.entry))) located_entry.is
+    put_located = put_spent (entries t) s.here located_entry.entry (omega (arith, located.inside, length-map t entry_of)) located_entry.is
 
 module _ {T : Type 0} (same : T → T → Bool) (mark_of : T → ℕ) (laws : Equivalence same) (marks : (x y : T) → same x y ≡ true → mark_of x ≡ mark_of y) where
   pub found_place : (t : List (Slot T)) (x : T) (s : Spot) (located : Located same t x s) → Apart same (bindings_in (entries t)) → lookup same (bindings_in (entries t)) x ≡ Some (located_entry same t x s located).entry.binding.place
@@ -147,7 +147,7 @@ module _ {T : Type 0} (same : T → T → Bool) (mark_of : T → ℕ) (laws : Eq
           let found = hit_entry same x (entry_at es i) h in
           let mark : found.entry.mark ≡ mark_of found.entry.binding.item = rw found.is at (All-get_or (λ o. IfSome o (λ e. e.mark ≡ mark_of e.binding.item)) es i None l lawful.marked) in
           let chain = own_by_entry (length t) es i ∙ ap (chain_of (length t)) found.is ∙ ap (λ (m : ℕ). m % length t) (mark ∙ sym (marks x found.entry.binding.item found.alike)) in
-          missing i (omega (arith, length-map t (λ s. s.entry))) chain)
+          missing i (omega (arith, length-map t entry_of)) chain)
           (λ f. f)
           (cases_Bool (hit_at same es x i))
 

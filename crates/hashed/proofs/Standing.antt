@@ -9,7 +9,7 @@ use Rattle.hashed.specs.declared.slot.Entry.{Entry}
 use Rattle.hashed.specs.declared.slot.Slot.{Slot}
 use Rattle.hashed.specs.declared.table.Spot.{Spot}
 use Rattle.hashed.specs.Chains.{Path}
-use Rattle.hashed.specs.Slots.{entries, links, heads, chain_of, Stands, Sound}
+use Rattle.hashed.specs.Slots.{entry_of, entries, links, heads, chain_of, Stands, Sound}
 use Rattle.hashed.specs.Steps.{Columns, SpotInside, relinked, reheaded, Split, Located}
 use Rattle.hashed.proofs.Columns.{at_written, at_other}
 use Rattle.hashed.proofs.Moves.{Moved, Closed, before_apart, chained}
@@ -104,7 +104,7 @@ stands_by size entered linked headed freed st = rw (size, entered, linked, heade
 
 module _ {T : Type 0} (t t' : List (Slot T)) (free free' : Option ℕ) where
   long_entries : length (entries t) ≡ length t
-  long_entries = length-map t (λ s. s.entry)
+  long_entries = length-map t entry_of
 
   long_links : length (links t) ≡ length t
   long_links = length-map t (λ s. s.link)
@@ -114,7 +114,7 @@ module _ {T : Type 0} (t t' : List (Slot T)) (free free' : Option ℕ) where
 
   -- Writing one entry leaves as many slots.
   pub as_many : (i : ℕ) (e : Option (Entry T)) → entries t' ≡ set (entries t) i e → length t' ≡ length t
-  as_many i e entered = sym (length-map t' (λ s. s.entry)) ∙ ap length entered ∙ length-set (entries t) i e ∙ long_entries
+  as_many i e entered = sym (length-map t' entry_of) ∙ ap length entered ∙ length-set (entries t) i e ∙ long_entries
 
   pub sound_inserted : (i : ℕ) (e : Entry T) → 0 < length t → i < length t → free ≡ Some i → Columns t' (set (entries t) i (Some e)) (set (links t) i (get_or (heads t) (e.mark % length t) None)) (set (heads t) (e.mark % length t) (Some i)) → free' ≡ get_or (links t) i None → Sound t free → Sound t' free'
   sound_inserted i e some inside at columns freed st =

@@ -1,15 +1,19 @@
 -- A walk along a chain: what it has passed, and what is ahead.
-use Rattle.std.proofs.Common.{◌≡◌, ℕ, ◌<◌, ◌≤◌, Bool, true, false, List, [], ◌∷◌, map, length, get_or, Some, None, Option, refl, ap, ◌∙◌, inl, inr, ⊎_elim, arith}
+use Rattle.std.proofs.Common.{◌≡◌, ℕ, ◌<◌, ◌≤◌, Bool, true, false, List, [], ◌∷◌, map, length, get_or, Some, None, Option, sym, refl, ap, ◌∙◌, inl, inr, ⊎_elim, arith}
 use mathlib.Core.Logic.{∥∥₁_elim}
 use native.Mathlib.Bridge.{le_prop}
 use Rattle.std.proofs.lemmas.Bool.{both_ways, cases_Bool, ne_eqb}
+use Rattle.std.proofs.Props.{props}
+use Rattle.std.specs.Option.{IsSome}
+use Rattle.hashed.specs.declared.slot.Entry.{Entry}
 use Rattle.hashed.specs.declared.slot.Slot.{Slot}
 use Rattle.hashed.specs.Chains.{In, Path}
 use Rattle.hashed.specs.Slots.{entries, links, heads, chain_of, Sound}
-use Rattle.hashed.specs.Steps.{hit_at, Follows, onto, last_of, Split, Located, Missing}
+use Rattle.hashed.specs.Steps.{entry_at, hit_at, Follows, onto, last_of, Split, Located, Missing}
 use Rattle.hashed.proofs.Lists.{in_onto, onto_in}
 use Rattle.hashed.proofs.Paths.{steps, steps_path}
 use Rattle.hashed.proofs.Moves.{chain_short}
+use Rattle.hashed.proofs.Clearing.{own_by_entry}
 
 -- The list is what the walk has behind it and what it has ahead, and nothing behind passes the test.
 pub record Walked (link : ℕ → Option ℕ) (test : ℕ → Bool) (chain : List ℕ) (before now : Option ℕ) : Type 0 where
@@ -23,6 +27,11 @@ pub record Walked (link : ℕ → Option ℕ) (test : ℕ → Bool) (chain : Lis
 length_onto : (front back : List ℕ) → length back ≤ length (onto front back)
 length_onto [] back = omega arith
 length_onto (x ∷ front) back = omega (arith, length_onto front (x ∷ back))
+
+-- What is in the chain of a mark is an entry.
+used : {T : Type 0} (n chain : ℕ) (o : Option (Entry T)) → chain_of n o ≡ chain → chain < n → IsSome o
+used n chain None own low = let same : n ≡ chain = own in absurd (omega arith)
+used n chain (Some e) own low = refl
 
 module _ {T : Type 0} (same : T → T → Bool) (t : List (Slot T)) (x : T) (b : ℕ) where
   abbrev link_of : ℕ → Option ℕ
@@ -76,6 +85,10 @@ module _ {T : Type 0} (same : T → T → Bool) (t : List (Slot T)) (x : T) (b :
     module _ (free : Option ℕ) (sound : ∥ Sound t free ∥₁) where
       pub walk_inside : here < length t
       walk_inside = ∥∥₁_elim sound le_prop (λ st. (mine free st).0)
+
+      -- It is in use, since its chain is that of a mark.
+      pub walk_used : b < length t → IsSome (entry_at (entries t) here)
+      walk_used low = ∥∥₁_elim sound (hlevel props) (λ st. used (length t) b (entry_at (entries t) here) (sym (own_by_entry (length t) (entries t) here) ∙ (mine free st).1) low)
 
       pub walk_less : (next : Option ℕ) → next ≡ link_of here → steps link_of (length t) next < steps link_of (length t) now
       walk_less next is =

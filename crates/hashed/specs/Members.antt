@@ -6,7 +6,7 @@ use Rattle.std.specs.List.{AllByRecursion as Each}
 use Rattle.finders.specs.Fronts.{empty_apart}
 use Rattle.hashed.specs.declared.slot.Entry.{Entry}
 use Rattle.hashed.specs.declared.slot.Slot.{Slot}
-use Rattle.hashed.specs.Slots.{entries, bindings_in, Lawful}
+use Rattle.hashed.specs.Slots.{entry_of, entries, bindings_in, Lawful}
 
 module _ {T : Type 0} where
   -- At most one binding to a slot.
@@ -16,7 +16,7 @@ module _ {T : Type 0} where
   bindings_within (Some e ∷ es) = omega (arith, bindings_within es)
 
   pub slots_within : (t : List (Slot T)) → length (bindings_in (entries t)) ≤ length t
-  slots_within t = omega (arith, bindings_within (entries t), length-map t (λ s. s.entry))
+  slots_within t = omega (arith, bindings_within (entries t), length-map t entry_of)
 
   -- With no binding in use, no mark can be wrong.
   empty_marked : (mark_of : T → ℕ) (es : List (Option (Entry T))) → length (bindings_in es) ≡ 0 → Each (λ o. IfSome o (λ e. e.mark ≡ mark_of e.binding.item)) es

@@ -10,11 +10,14 @@ use Rattle.hashed.specs.Chains.{Chained}
 
 module _ {T : Type 0} where
   abbrev pub vacant_slot : Slot T
-  vacant_slot = record { entry = None; link = None; head = None }
+  vacant_slot = record { place = 0; held = None; link = None; head = None }
 
-  -- The entry of each slot that is in use, and none of the others.
+  -- The entry of a slot that is in use: the item that it holds, with its place and its mark. The others have none.
+  abbrev pub entry_of : Slot T → Option (Entry T)
+  entry_of s = option_map (λ h. record { binding = record { item = h.item; place = s.place }; mark = h.mark }) s.held
+
   abbrev pub entries : List (Slot T) → List (Option (Entry T))
-  entries t = map (λ s. s.entry) t
+  entries t = map entry_of t
 
   abbrev pub links : List (Slot T) → List (Option ℕ)
   links t = map (λ s. s.link) t

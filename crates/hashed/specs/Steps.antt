@@ -36,7 +36,7 @@ below (suc i) = Some i
 
 -- The first n slots are free, each linked to the one below, and their chains have no head.
 abbrev pub Cleared : {T : Type 0} → List (Slot T) → ℕ → Type 0
-Cleared t n = (i : ℕ) → i < n → slice_index_or t i vacant_slot ≡ record { entry = None; link = below i; head = None }
+Cleared t n = (i : ℕ) → i < n → slice_index_or t i vacant_slot ≡ record { place = 0; held = None; link = below i; head = None }
 
 -- ---- taking a slot out of its chain
 

@@ -85,7 +85,7 @@ weighs_all (b ∷ bytes) i =
     ∙ ap (λ w. weight_at i * (b - 48) + weighted w (digits bytes)) (weights_turn i)
 
 -- The check digit weighs 1, as if it were one of the others.
-check_sum_weighted : (ds : List ℕ) → weighted 1 ds ≡ check_sum_lem ds
+pub check_sum_weighted : (ds : List ℕ) → weighted 1 ds ≡ check_sum_lem ds
 check_sum_weighted [] = refl
 check_sum_weighted (check ∷ ds) = omega arith
 

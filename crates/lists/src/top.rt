@@ -14,7 +14,6 @@ use crate::walk::Walk;
 use calls::answers::{Line, TopList};
 use calls::refusal::Refusal;
 use counters::counters::Counters;
-use std::iter::once;
 
 // The counters and k stay two parameters: each function is called once, so a type for both would add more than it takes away.
 
@@ -45,15 +44,18 @@ fn cut<T: Copy + Drop>(counters: &Counters<'_, T>, k: usize) -> Option<usize>
 fn falls<T: Copy + Drop>(counters: &Counters<'_, T>, k: usize) -> bool
     ensures { result ≡ ordered k (size counters.now) (row_of counters.now) }
 {
-    // The figure after a position: the count at the next one, or the outside figure after the last.
-    let figures = Walk::new(counters)
-        .skip(1)
-        .map(|entry| entry.count)
-        .chain(once(outside(counters)));
-    Walk::new(counters)
-        .take(k)
-        .zip(figures)
-        .all(|(entry, figure)| lower(entry) >= figure)
+    // Before position 1, any figure will do: none is above the total.
+    let mut last = counters.total();
+    for (n, entry) in Walk::new(counters).enumerate() {
+        if last < entry.count {
+            return false;
+        }
+        if n >= k {
+            return true;
+        }
+        last = lower(entry);
+    }
+    last >= outside(counters)
 }
 
 // What the top list of k answers.

@@ -9,7 +9,7 @@ use counters::counters::Counters;
 use rows::entry::Entry;
 
 /// The entries by position. It keeps the place of the next one, or none at the end of the row.
-#[derive(Drop)]
+#[derive(Clone, Copy)]
 pub struct Walk<'c, 'a, T> {
     counters: &'c Counters<'a, T>,
     place: Option<usize>,

@@ -1,5 +1,5 @@
 // The first k positions, as a watched hit looks at them.
-ghost use Rattle.std.specs.Prelude.{◌≡◌, take};
+ghost use Rattle.std.specs.Prelude.{◌≡◌, ◌||◌, take, Some};
 ghost use Rattle.rows.specs.Questions.{by_position, listed};
 ghost use Rattle.calls.specs.Reading.{row_of};
 ghost use Rattle.calls.specs.Watching.{last_item, entered_by, left_by};
@@ -9,6 +9,7 @@ ghost use Rattle.summary.specs.Leading.{leading};
 use counters::counters::Counters;
 use items::kind::Kind;
 use lists::walk::Walk;
+use rows::entry::Entry;
 
 /// The first k positions of the counters.
 #[derive(Drop)]
@@ -23,6 +24,19 @@ pub struct Leaders<'c, 'a, T> {
 pub struct Standing<T> {
     pub leads: bool,
     pub last: Option<T>,
+}
+
+impl<T: Kind + Copy + Drop> Standing<T> {
+    // With one more position.
+    fn with(self, entry: Entry<T>, item: &T) -> Standing<T>
+        ensures leads { result.leads ≡ self.leads || T.Kind.same entry.item item.now }
+        ensures last { result.last ≡ Some entry.item }
+    {
+        Standing {
+            leads: self.leads || entry.item.is_same(item),
+            last: Some(entry.item),
+        }
+    }
 }
 
 impl<'c, 'a, T: Kind + Copy + Drop> Leaders<'c, 'a, T> {
@@ -41,25 +55,18 @@ impl<'c, 'a, T: Kind + Copy + Drop> Leaders<'c, 'a, T> {
             .any(|entry| entry.item.is_same(item))
     }
 
-    // The item at the last of the positions.
-    fn last(&self) -> Option<T>
-        ensures { result ≡ last_item (leading self.now) }
-    {
-        Walk::new(self.counters)
-            .take(self.k)
-            .last()
-            .map(|entry| entry.item)
-    }
-
-    /// How the item stands to the positions.
+    /// How the item stands to the positions, in one walk over them.
     pub fn survey(&self, item: &T) -> Standing<T>
         ensures leads { result.leads ≡ listed T.Kind.same item.now (leading self.now) }
         ensures last { result.last ≡ last_item (leading self.now) }
     {
-        Standing {
-            leads: self.has(item),
-            last: self.last(),
-        }
+        let none = Standing {
+            leads: false,
+            last: None,
+        };
+        Walk::new(self.counters)
+            .take(self.k)
+            .fold(none, |standing, entry| standing.with(entry, item))
     }
 
     // What the item entered as, if it leads now and did not before; `form` is what its entry holds.

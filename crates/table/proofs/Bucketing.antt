@@ -30,11 +30,11 @@ module _ {T : Type 0} where
   -- ---- an emptied bucket is given back
 
   -- The bucket b, which has no counter, goes to the free ones.
-  record Retired (t t' : List (Place T)) (s s' : Lists) (b : ℕ) : Type 0 where
+  pub record Retired (t t' : List (Place T)) (s s' : Lists) (b : ℕ) : Type 0 where
     pub quiet : Quiet t t'
     pub out : (ls rs : List Group) (fs : List ℕ) → Full t s (ls ++ group b [] ∷ rs) fs → Full t' s' (ls ++ rs) (fs ++ b ∷ [])
 
-  retired_by : (t t' : List (Place T)) (s s' : Lists) (b : ℕ) → t' ≡ retired_in s b t → s' ≡ retired_lists t b s → Retired t t' s s' b
+  pub retired_by : (t t' : List (Place T)) (s s' : Lists) (b : ℕ) → t' ≡ retired_in s b t → s' ≡ retired_lists t b s → Retired t t' s s' b
   retired_by t t' s s' b et es =
       let t₁ = unlinking bucket_links b t in
       let l = s.free.last in

@@ -10,33 +10,53 @@ use crate::place::Place;
 use links::ends::Ends;
 use links::lists::place_mut;
 
+// The bucket that the counter at `at` is in.
 #[tactic(auto, using(links::proofs::Tables::read_found, links::proofs::Tables::read_past))]
+pub(crate) fn owner<T>(places: &[Place<T>], at: u16) -> u16
+    ensures { result ≡ owner_in places.now at }
+{
+    places
+        .get(at as usize)
+        .map_or(0, |place| place.counter.bucket)
+}
+
+// The ends of the list of the bucket's counters.
+#[tactic(auto, using(links::proofs::Tables::read_found, links::proofs::Tables::read_past))]
+pub(crate) fn members<T>(places: &[Place<T>], bucket: u16) -> Ends
+    ensures { result ≡ members_in places.now bucket }
+{
+    places
+        .get(bucket as usize)
+        .map_or(Ends::default(), |place| place.bucket.members)
+}
+
+// The count of the bucket's counters.
+#[tactic(auto, using(links::proofs::Tables::read_found, links::proofs::Tables::read_past))]
+pub(crate) fn value<T>(places: &[Place<T>], bucket: u16) -> u32
+    ensures { result ≡ value_in places.now bucket }
+{
+    places
+        .get(bucket as usize)
+        .map_or(0, |place| place.bucket.value)
+}
+
 impl<'a, T> Table<'a, T> {
-    // The bucket that the counter at `at` is in.
     pub(crate) fn owner(&self, at: u16) -> u16
         ensures { result ≡ owner_in self.now.places.now at }
     {
-        self.places
-            .get(at as usize)
-            .map_or(0, |place| place.counter.bucket)
+        owner(self.places, at)
     }
 
-    // The ends of the list of the bucket's counters.
     pub(crate) fn members(&self, bucket: u16) -> Ends
         ensures { result ≡ members_in self.now.places.now bucket }
     {
-        self.places
-            .get(bucket as usize)
-            .map_or(Ends::default(), |place| place.bucket.members)
+        members(self.places, bucket)
     }
 
-    // The count of the bucket's counters.
     pub(crate) fn value(&self, bucket: u16) -> u32
         ensures { result ≡ value_in self.now.places.now bucket }
     {
-        self.places
-            .get(bucket as usize)
-            .map_or(0, |place| place.bucket.value)
+        value(self.places, bucket)
     }
 }
 

@@ -41,8 +41,7 @@ impl<'a, T: Kind + Copy + Drop> Finder<T> for HashedFinder<'a, T> {
 
     fn find(&self, item: &T) -> Option<usize> {
         let spot = self.table.locate(item)?;
-        let entry = self.table.slots[spot.here as usize].entry?;
-        Some(entry.binding.place)
+        Some(self.table.slots[spot.here as usize].place)
     }
 
     fn enter(&mut self, item: T, place: usize) -> Result<(), Refusal> {

@@ -1,7 +1,7 @@
 -- The walk along a chain: what it has passed is not the item, and what is left of the chain gets shorter.
 use Rattle.std.proofs.Common.{sym, ◌∙◌}
 use Rattle.hashed.proofs.Columns.{head_read}
-use Rattle.hashed.proofs.Walking.{walk_start, walk_inside, walk_less, walk_found, walk_on, walk_end}
+use Rattle.hashed.proofs.Walking.{walk_start, walk_inside, walk_used, walk_less, walk_found, walk_on, walk_end}
 use Rattle.hashed.proofs.table.Table.locate.Goals as goal
 
 pub loop-cursor-init : goal.loop-cursor-init
@@ -11,7 +11,10 @@ loop-cursor-init g c =
 
 pub holds-requires : goal.holds-requires
 holds-requires g c =
-    walk_inside g.T.Kind.same c.args.self.now.slots.now c.args.item.now _ _ _ c.in-Some.here c.in-Some.is c.loop-cursor.invariant _ c.requires
+    record {
+      inside = walk_inside g.T.Kind.same c.args.self.now.slots.now c.args.item.now _ _ _ c.in-Some.here c.in-Some.is c.loop-cursor.invariant _ c.requires;
+      used = walk_used g.T.Kind.same c.args.self.now.slots.now c.args.item.now _ _ _ c.in-Some.here c.in-Some.is c.loop-cursor.invariant _ c.requires c.chain_for-chain.ensures.below;
+    }
 
 pub returns-then-holds : goal.returns-then-holds
 returns-then-holds g c =

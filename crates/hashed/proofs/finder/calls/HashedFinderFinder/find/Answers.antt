@@ -1,7 +1,6 @@
 -- The walk ends at the slot that the look-up finds, or the look-up finds none.
-use Rattle.std.proofs.Common.{◌≡◌, Some, sym, ap, ◌∙◌}
-use Rattle.hashed.specs.declared.slot.Entry.{Entry}
-use Rattle.hashed.proofs.Columns.{entry_read}
+use Rattle.std.proofs.Common.{Some, sym, ap, ◌∙◌}
+use Rattle.hashed.proofs.Columns.{place_read}
 use Rattle.hashed.proofs.Entries.{located_entry, found_place, missing_nowhere}
 use Rattle.hashed.proofs.finder.calls.HashedFinderFinder.find.Goals as goal
 
@@ -18,7 +17,5 @@ returns g c =
     let x = c.args.item.now in
     let located = c.in_ok-spot.ensures.1 in
     let found = located_entry g.T.Kind.same t x _ located in
-    let read = sym c.in_ok-entry.was ∙ entry_read t _ _ located.inside ∙ found.is in
-    let same_entry : c.in_ok-entry.entry ≡ found.entry = cc in
-    ap (λ (e : Entry g.row.T.Denot). Some e.binding.place) same_entry
+    ap Some (place_read t _ _ located.inside found.entry found.is)
     ∙ sym (found_place g.T.Kind.same g.T.Kind.mark_of g.met.T.Kind.equivalence g.met.T.Kind.marks t x _ located lawful.apart)
