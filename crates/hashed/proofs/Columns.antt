@@ -3,7 +3,6 @@ use Rattle.std.proofs.Common.{◌≡◌, ℕ, ◌<◌, ◌≢◌, List, map, len
 use lib.ListN.{length-map}
 use Rattle.std.proofs.lemmas.List.{get_or-map, map-set, get_or-set_same, get_or-set_other}
 use Rattle.std.proofs.Math.Seq.{map-set_same}
-use Rattle.std.specs.Option.{option_map}
 use Rattle.hashed.specs.declared.slot.Entry.{Entry}
 use Rattle.hashed.specs.declared.slot.Held.{Held}
 use Rattle.hashed.specs.declared.slot.Slot.{Slot}
@@ -15,15 +14,15 @@ module _ {T : Type 0} where
   pub entry_read : (t : List (Slot T)) (i : ℕ) (s : Slot T) → i < length t → entry_of (get_or t i s) ≡ get_or (map entry_of t) i None
   entry_read t i s inside = sym (get_or-map entry_of t i s None inside)
 
-  placed : (p : ℕ) (o : Option (Held T)) (e : Entry T) → option_map (λ h. record { binding = record { item = h.item; place = p }; mark = h.mark }) o ≡ Some e → p ≡ e.binding.place
-  placed p None e is = absurd cc
-  placed p (Some h) e is =
-      let same : record { binding = record { item = h.item; place = p }; mark = h.mark } ≡ e = cc in
+  placed : (place : ℕ) (held : Option (Held T)) (link head : Option ℕ) (e : Entry T) → entry_of (record { place = place; held = held; link = link; head = head }) ≡ Some e → place ≡ e.binding.place
+  placed place None link head e is = absurd cc
+  placed place (Some h) link head e is =
+      let same : record { binding = record { item = h.item; place = place }; mark = h.mark } ≡ e = cc in
       ap (λ (f : Entry T). f.binding.place) same
 
   -- The place of a slot is that of its entry.
   pub place_read : (t : List (Slot T)) (i : ℕ) (s : Slot T) → i < length t → (e : Entry T) → get_or (map entry_of t) i None ≡ Some e → (get_or t i s).place ≡ e.binding.place
-  place_read t i s inside e is = placed (get_or t i s).place (get_or t i s).held e (entry_read t i s inside ∙ is)
+  place_read t i s inside e is = placed (get_or t i s).place (get_or t i s).held (get_or t i s).link (get_or t i s).head e (entry_read t i s inside ∙ is)
 
   pub link_read : (t : List (Slot T)) (i : ℕ) (s : Slot T) → i < length t → (get_or t i s).link ≡ get_or (map (λ s. s.link) t) i None
   link_read t i s inside = sym (get_or-map (λ s. s.link) t i s None inside)

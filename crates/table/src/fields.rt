@@ -40,6 +40,7 @@ pub(crate) fn value<T>(places: &[Place<T>], bucket: u16) -> u32
         .map_or(0, |place| place.bucket.value)
 }
 
+// The same as methods: in a method that takes `&mut self`, the lent places are not lent on as shared ones.
 impl<'a, T> Table<'a, T> {
     pub(crate) fn owner(&self, at: u16) -> u16
         ensures { result ≡ owner_in self.now.places.now at }

@@ -1,5 +1,5 @@
 // What is read off the links without a walk: a counter's entry, the lowest and the highest counter, and the next lower one.
-// A function each over the places, which may be shared, and a method of the table over it.
+// A function each over the places, which may be shared, and a method that hands on the table's own.
 ghost use Rattle.std.specs.Prelude.{◌≡◌};
 ghost use Rattle.links.specs.Lists.{prev_in};
 ghost use Rattle.table.specs.Fields.{bucket_links, members_in};
